@@ -1,0 +1,3 @@
+pub mod FormNumbers
+pub mod FormRest
+pub mod FormLoop

@@ -1,0 +1,6 @@
+//! The compiler's program.
+#![tactic(auto)]
+
+pub mod form;
+
+fn main() {}
