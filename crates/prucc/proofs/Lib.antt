@@ -1,3 +1,4 @@
 pub mod FormNumbers
 pub mod FormRest
 pub mod FormLoop
+pub mod RunSteps

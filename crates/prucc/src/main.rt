@@ -1,6 +1,9 @@
 //! The compiler's program.
 #![tactic(auto)]
 
-pub mod form;
+mod code;
+mod form;
+pub mod machine;
+mod run;
 
 fn main() {}

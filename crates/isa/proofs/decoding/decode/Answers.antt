@@ -1,0 +1,9 @@
+-- What has the word is what the table undone gives.
+use Rattle.std.proofs.Common.{rules}
+use Rattle.isa.specs.Decoded.{decoded}
+use Rattle.isa.proofs.Table.{decoded_again}
+use Rattle.isa.proofs.decoding.decode.Goals as goal
+
+pub returns-clause-again : goal.returns-clause-again
+unfolding decoded
+returns-clause-again c = decoded_again c.args.w _ (search rules)
