@@ -2,3 +2,4 @@ pub mod FormNumbers
 pub mod FormRest
 pub mod FormLoop
 pub mod RunSteps
+pub mod SixWords

@@ -5,3 +5,4 @@ pub mod Part
 pub mod Meaning
 pub mod Code
 pub mod Run
+pub mod Request

@@ -4,6 +4,8 @@
 mod code;
 mod form;
 pub mod machine;
+mod name;
+mod request;
 mod run;
 
 fn main() {}
