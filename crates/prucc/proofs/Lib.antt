@@ -3,3 +3,4 @@ pub mod FormRest
 pub mod FormLoop
 pub mod RunSteps
 pub mod SixWords
+pub mod Told

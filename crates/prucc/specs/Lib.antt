@@ -6,3 +6,7 @@ pub mod Meaning
 pub mod Code
 pub mod Run
 pub mod Request
+pub mod Summary
+pub mod Answers
+pub mod StatusNumber
+pub mod RunAnswer

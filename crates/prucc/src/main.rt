@@ -7,5 +7,8 @@ pub mod machine;
 mod name;
 mod request;
 mod run;
+mod status;
+mod summary;
+mod top;
 
 fn main() {}

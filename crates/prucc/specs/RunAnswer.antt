@@ -1,0 +1,112 @@
+-- The answers of the parts of a run: inner words of `top`.
+use Rattle.std.specs.Prelude.{◌≡◌, ◌⊎◌, ℕ, ◌+◌, List, ◌++◌, take, Option, Some, Result}
+use Rattle.std.specs.Global.{Vec}
+use Rattle.std.specs.String.{string_bytes}
+use Rattle.fileset.specs.Told.{Held, content, Tells, IsSameFiles, IsSameButFor, IsCutShort, AppendsFront}
+use Rattle.fileset.specs.Faults.{Rose}
+use Rattle.prucc.specs.declared.status.Status.{Status}
+use Rattle.prucc.specs.declared.status.Status.TheVariants.{Done, Words, ReadFault, WriteFault, NoMemory, NotBuilt}
+use Rattle.prucc.specs.declared.top.Inputs.{Inputs}
+use Rattle.prucc.specs.declared.top.Output.{Output}
+use Rattle.prucc.specs.Form.{Writes, DepartsAt}
+use Rattle.prucc.specs.Summary.{summary_text}
+use Rattle.prucc.specs.Request.{Asked, Asks, events_name}
+use Rattle.prucc.specs.Answers.{AskFor, IsBuilt, IsBehind, NotBuiltAt, IsNotBuiltFrom, events_file, IsUntouched, FailedFile, FailedSink, IsInput, sink_name}
+
+-- why a read fails
+abbrev pub ReadFails : List ℕ → ℕ → ℕ → Status → Type 0
+ReadFails name before now (ReadFault file) = (file ≡ name) × Rose before now
+ReadFails name before now NoMemory = Unit {0}
+ReadFails name before now other = ⊥
+
+-- the first bytes of the file, and no file has changed
+pub record HoldsFront (bytes name : List ℕ) (max : ℕ) (before after : Held) : Type 0 where
+  pub front : bytes ≡ take (max + 1) (content before name)
+  pub same : IsSameFiles before after
+
+abbrev pub InputFails : Asked → ℕ → ℕ → Status → Type 0
+InputFails r before now (ReadFault file) = IsInput r file × Rose before now
+InputFails r before now NoMemory = Unit {0}
+InputFails r before now other = ⊥
+
+-- the three files as far as they are read, and no file has changed
+pub record HoldsInputs (r : Asked) (inputs : Inputs) (before after : Held) : Type 0 where
+  pub zero : inputs.zero.items ≡ take 65537 (content before r.zero)
+  pub one : inputs.one.items ≡ take 65537 (content before r.one)
+  pub script : inputs.script.items ≡ take 1048577 (content before r.script)
+  pub same : IsSameFiles before after
+
+-- what isn't built stands behind so many bytes of the file
+abbrev pub NotBuiltBehind : List ℕ → ℕ → Status → Type 0
+NotBuiltBehind name at (NotBuilt file line column) = (file ≡ name) × IsBehind at line column
+NotBuiltBehind name at NoMemory = Unit {0}
+NotBuiltBehind name at other = ⊥
+
+-- why a source isn't built
+abbrev pub SourceFails : List ℕ → List ℕ → Status → Type 0
+SourceFails name source (NotBuilt file line column) = (file ≡ name) × ((p : ℕ) × DepartsAt source p × IsBehind p line column)
+SourceFails name source NoMemory = Unit {0}
+SourceFails name source other = ⊥
+
+-- what a run of the inputs writes
+pub record Builds (r : Asked) (inputs : Inputs) (output : Output) : Type 0 where
+  pub ks0 : List ℕ
+  pub ks1 : List ℕ
+  pub built : IsBuilt inputs.script.items inputs.zero.items inputs.one.items ks0 ks1
+  pub events : output.events.items ≡ events_file r.cycles ks0 ks1
+  pub summary : string_bytes output.summary ≡ summary_text r.cycles ks0 ks1
+
+abbrev pub BuildFails : Asked → Inputs → Status → Type 0
+BuildFails r inputs (NotBuilt name line column) = NotBuiltAt r inputs.script.items inputs.zero.items inputs.one.items name line column
+BuildFails r inputs NoMemory = Unit {0}
+BuildFails r inputs other = ⊥
+
+-- a file holds the bytes, and no other has changed
+pub record HoldsFile (name bytes : List ℕ) (before after : Held) : Type 0 where
+  pub written : after name ≡ Some bytes
+  pub others : IsSameButFor name before after
+
+-- a file is as it was or cut short, and no other has changed
+pub record CutsFile (name bytes : List ℕ) (before after : Held) : Type 0 where
+  pub cut_short : IsCutShort bytes (before name) (after name)
+  pub others : IsSameButFor name before after
+
+-- the write of the file failed
+pub record FileFails (name bytes file : List ℕ) (held now : Option Held) (faults after : ℕ) (taken later : Option (List ℕ)) : Type 0 where
+  pub file_is : file ≡ name
+  pub rose : Rose faults after
+  pub left : Tells held now (CutsFile name bytes)
+  pub untouched : IsUntouched taken later
+
+-- the sink failed, behind the write of the file
+pub record SinkFails (name bytes text file : List ℕ) (held now : Option Held) (taken later : Option (List ℕ)) (faults after : ℕ) : Type 0 where
+  pub file_is : file ≡ sink_name
+  pub rose : Rose faults after
+  pub left : Tells held now (HoldsFile name bytes)
+  pub front : Tells taken later (λ old new. AppendsFront old text new)
+
+abbrev pub WriteFails : List ℕ → List ℕ → List ℕ → Option Held → Option Held → ℕ → ℕ → Option (List ℕ) → Option (List ℕ) → ℕ → ℕ → Status → Type 0
+WriteFails name bytes text held now faults after taken later sink_faults sink_after (WriteFault file) =
+    FileFails name bytes file held now faults after taken later ⊎ SinkFails name bytes text file held now taken later sink_faults sink_after
+WriteFails name bytes text held now faults after taken later sink_faults sink_after NoMemory = Tells held now IsSameFiles × IsUntouched taken later
+WriteFails name bytes text held now faults after taken later sink_faults sink_after other = ⊥
+
+-- the write of the events failed, or the sink
+pub data OutputFails (r : Asked) (file : List ℕ) (held now : Option Held) (faults after : ℕ) (taken later : Option (List ℕ)) (sink_faults sink_after : ℕ) : Type 0 where
+  AtFile : (name : file ≡ events_name r) (rose : Rose faults after) (left : Tells held now (FailedFile r)) (untouched : IsUntouched taken later) → OutputFails r file held now faults after taken later sink_faults sink_after
+  AtSink : (name : file ≡ sink_name) (rose : Rose sink_faults sink_after) (left : Tells held now (FailedSink r taken later)) → OutputFails r file held now faults after taken later sink_faults sink_after
+
+-- neither files nor sink have changed
+pub record IsSame (held now : Option Held) (taken later : Option (List ℕ)) : Type 0 where
+  pub files : Tells held now IsSameFiles
+  pub sink : IsUntouched taken later
+
+-- why a run isn't done
+abbrev pub RunFails : List (List ℕ) → Option Held → Option Held → ℕ → ℕ → Option (List ℕ) → Option (List ℕ) → ℕ → ℕ → Status → Type 0
+RunFails words held now faults after taken later sink_faults sink_after Words = ((r : Asked) → Asks words r → ⊥) × IsSame held now taken later
+RunFails words held now faults after taken later sink_faults sink_after (ReadFault file) = AskFor words (λ r. IsInput r file × Rose faults after) × IsSame held now taken later
+RunFails words held now faults after taken later sink_faults sink_after (NotBuilt name line column) =
+    AskFor words (λ r. Tells held now (λ before _. IsNotBuiltFrom before r name line column)) × IsSame held now taken later
+RunFails words held now faults after taken later sink_faults sink_after (WriteFault file) = AskFor words (λ r. OutputFails r file held now faults after taken later sink_faults sink_after)
+RunFails words held now faults after taken later sink_faults sink_after NoMemory = IsSame held now taken later
+RunFails words held now faults after taken later sink_faults sink_after Done = ⊥

@@ -1,0 +1,60 @@
+ghost use Rattle.std.specs.Prelude.{◌≡◌};
+ghost use Rattle.prucc.specs.declared.status.Status.TheVariants.{NoMemory};
+ghost use Rattle.prucc.specs.StatusNumber.{number_of};
+
+use crate::name::Name;
+use prunum::Memory;
+use std::alloc::AllocError;
+use thiserror::Error;
+
+/// How the program ends.
+#[derive(Debug, Drop, Error)]
+pub enum Status {
+    #[error("done")]
+    Done,
+    /// The words ask for nothing that the program does.
+    #[error("words")]
+    Words,
+    #[error("read {name}")]
+    ReadFault { name: Name },
+    /// The name is `-` for the sink.
+    #[error("write {name}")]
+    WriteFault { name: Name },
+    #[error("memory")]
+    NoMemory,
+    /// What stands at this place is read by a later stage of the program.
+    #[error("notbuilt {name} {line}:{column}")]
+    NotBuilt { name: Name, line: u32, column: u32 },
+}
+
+impl Status {
+    /// The program's exit status.
+    pub fn number(&self) -> u8
+        ensures { result ≡ number_of self.now }
+    {
+        match self {
+            Status::Done => 0,
+            Status::Words => 2,
+            Status::ReadFault { .. } => 6,
+            Status::WriteFault { .. } => 7,
+            Status::NoMemory => 14,
+            Status::NotBuilt { .. } => 16,
+        }
+    }
+}
+
+impl From<Memory> for Status {
+    ghost from_gives = { λ _ s. s ≡ NoMemory };
+
+    fn from(_: Memory) -> Self {
+        Status::NoMemory
+    }
+}
+
+impl From<AllocError> for Status {
+    ghost from_gives = { λ _ s. s ≡ NoMemory };
+
+    fn from(_: AllocError) -> Self {
+        Status::NoMemory
+    }
+}
