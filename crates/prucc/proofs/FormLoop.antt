@@ -24,7 +24,9 @@ pub record Going (front : List ℕ) (place : Place) (ws : List ℕ) : Type 0 whe
 
 pub starts : Going [] (Within Head 0) []
 starts = record {
-  few = omega arith; each = tt; is_open = (omega arith, tt);
+  few = omega arith;
+  each = tt;
+  is_open = (omega arith, tt);
   to = λ ks y h. (ks, refl, begin ks y h);
   from = λ ks y h. record {
     are_writes = record { count = h.2.count; each = h.2.each };
@@ -35,6 +37,7 @@ starts = record {
     begins : (ks : List ℕ) → (z : List ℕ) × (body ks ≡ codes " __" ++ z)
     begins [] = (codes "halt(); }", refl)
     begins (k ∷ ks) = (drop 3 (body (k ∷ ks)), refl)
+
     begin : (ks y : List ℕ) → Writes y ks → Rest (Within Head 0) 2047 ks y
     begin ks y h =
         let b = begins ks in
@@ -45,7 +48,9 @@ push front b y = append_assoc front (b ∷ []) y
 
 pub leads : (front : List ℕ) (b : ℕ) (place next : Place) (ws : List ℕ) → Going front place ws → Leads place (2047 - length ws) b next → Going (front ++ b ∷ []) next ws
 leads front b place next ws g l = record {
-  few = g.few; each = g.each; is_open = l.open_still;
+  few = g.few;
+  each = g.each;
+  is_open = l.open_still;
   to = λ ks y h. let t = g.to ks (b ∷ y) (subst (λ (s : List ℕ). Writes s ks) (push front b y) h) in (t.0, t.1, l.to t.0 y t.2);
   from = λ others y h. subst (λ (s : List ℕ). Writes s (ws ++ others)) (sym (push front b y)) (g.from others (b ∷ y) (l.from others y h));
 }
@@ -56,19 +61,24 @@ each-push (w ∷ ws) v all is = (all.0, each-push ws v all.1 is)
 
 pub ends : (front : List ℕ) (b v : ℕ) (place next : Place) (ws : List ℕ) → Going front place ws → Ends place (2047 - length ws) b next v → Going (front ++ b ∷ []) next (ws ++ v ∷ [])
 ends front b v place next ws g e = record {
-  few = few_still; each = each-push ws v g.each e.loadable; is_open = subst (IsOpen next) (sym fewer) e.open_still;
+  few = few_still;
+  each = each-push ws v g.each e.loadable;
+  is_open = subst (IsOpen next) (sym fewer) e.open_still;
   to = λ ks y h. onwards ks y (g.to ks (b ∷ y) (subst (λ (s : List ℕ). Writes s ks) (push front b y) h)).0 (g.to ks (b ∷ y) (subst (λ (s : List ℕ). Writes s ks) (push front b y) h)).1 (g.to ks (b ∷ y) (subst (λ (s : List ℕ). Writes s ks) (push front b y) h)).2;
   from = λ others y h.
-    let back : Writes (front ++ b ∷ y) (ws ++ v ∷ others) = g.from (v ∷ others) (b ∷ y) (e.from others y (subst (λ (n : ℕ). Rest next n others y) fewer h)) in
-    subst (λ (s : List ℕ). Writes s ((ws ++ v ∷ []) ++ others)) (sym (push front b y)) (subst (Writes (front ++ b ∷ y)) (sym (append_assoc ws (v ∷ []) others)) back);
+      let back : Writes (front ++ b ∷ y) (ws ++ v ∷ others) = g.from (v ∷ others) (b ∷ y) (e.from others y (subst (λ (n : ℕ). Rest next n others y) fewer h)) in
+      subst (λ (s : List ℕ). Writes s ((ws ++ v ∷ []) ++ others)) (sym (push front b y)) (subst (Writes (front ++ b ∷ y)) (sym (append_assoc ws (v ∷ []) others)) back);
 }
   where
     longer : length (ws ++ v ∷ []) ≡ length ws + 1
     longer = length-append ws (v ∷ [])
+
     few_still : length (ws ++ v ∷ []) ≤ 2047
     few_still = let room = e.room in omega (arith, longer)
+
     fewer : 2047 - length (ws ++ v ∷ []) ≡ 2047 - length ws - 1
     fewer = omega (arith, longer)
+
     onwards : (ks y others : List ℕ) → ks ≡ ws ++ others → Rest place (2047 - length ws) others (b ∷ y)
         → (more : List ℕ) × (ks ≡ (ws ++ v ∷ []) ++ more) × Rest next (2047 - length (ws ++ v ∷ [])) more y
     onwards ks y others is rest =
@@ -79,7 +89,15 @@ ends front b v place next ws g e = record {
 
 number_rest : (digits more : List ℕ) (left k : ℕ) → 0 < left → IsLoadable k → digits ++ more ≡ decimal k → IsNumberRest digits left (k ∷ []) (more ++ 59 ∷ body [])
 number_rest digits more left k room loadable number = record {
-  k = k; others = []; more = more; after = body []; room = room; writes = refl; loadable = loadable; number = number; text = refl;
+  k = k;
+  others = [];
+  more = more;
+  after = body [];
+  room = room;
+  writes = refl;
+  loadable = loadable;
+  number = number;
+  text = refl;
   goes_on = record { count = omega arith; each = tt; text = refl };
 }
 
@@ -106,17 +124,20 @@ whole_begins source ks h = record { ks = ks; rest = []; goes_on = subst (λ (s :
 pub departs : (source : List ℕ) (i : ℕ) (place : Place) (ws : List ℕ) → i < length source → Going (take i source) place ws → Refuses place (2047 - length ws) (get_or source i 0) → DepartsAt source i
 departs source i place ws lt g refuses = record {
   no_form = λ ks h. let le = longest (length source) (omega arith) (whole_begins source ks h) in omega arith;
-  within = omega arith; begins = begins (take i source) place ws g; longest = longest;
+  within = omega arith;
+  begins = begins (take i source) place ws g;
+  longest = longest;
 }
   where
     further : (m : ℕ) (rest ks : List ℕ) → Writes (take (i + suc m) source ++ rest) ks → ⊥
     further m rest ks h =
         let cut : take (i + suc m) source ≡ take i source ++ get_or source i 0 ∷ take m (drop (i + 1) source) =
-          take-add i (suc m) source ∙ ap (λ (t : List ℕ). take i source ++ take (suc m) t) (drop_more source i 0 lt) in
+        take-add i (suc m) source ∙ ap (λ (t : List ℕ). take i source ++ take (suc m) t) (drop_more source i 0 lt) in
         let text : take (i + suc m) source ++ rest ≡ take i source ++ get_or source i 0 ∷ (take m (drop (i + 1) source) ++ rest) =
-          ap (λ (t : List ℕ). t ++ rest) cut ∙ append_assoc (take i source) (get_or source i 0 ∷ take m (drop (i + 1) source)) rest in
+        ap (λ (t : List ℕ). t ++ rest) cut ∙ append_assoc (take i source) (get_or source i 0 ∷ take m (drop (i + 1) source)) rest in
         let t = g.to ks (get_or source i 0 ∷ (take m (drop (i + 1) source) ++ rest)) (subst (λ (s : List ℕ). Writes s ks) text h) in
         refuses t.0 (take m (drop (i + 1) source) ++ rest) t.2
+
     longest : (q : ℕ) → q ≤ length source → IsBeginning (take q source) → q ≤ i
     longest q within is = elim (cases_lt i q) [
       | inl past ↦
@@ -161,12 +182,12 @@ one_more source i place ws lt g = subst (λ (f : List ℕ). Going f place ws) (s
 pub goes_on : (source : List ℕ) (i : ℕ) (place : Place) (ws : List ℕ) (s : Step) → i < length source → Going (take i source) place ws → Some s ≡ step_of place (2047 - length ws) (get_or source i 0) → s.wrote ≡ None → Going (take (i + 1) source) s.place ws
 goes_on source i place ws s lt g e none =
     one_more source i s.place ws lt (leads (take i source) (get_or source i 0) place s.place ws g
-      (subst (FollowsBy place (2047 - length ws) (get_or source i 0) s.place) none (by_step source i place ws (Some s) g e)))
+    (subst (FollowsBy place (2047 - length ws) (get_or source i 0) s.place) none (by_step source i place ws (Some s) g e)))
 
 pub writes_on : (source : List ℕ) (i : ℕ) (place : Place) (ws : List ℕ) (s : Step) (v : ℕ) → i < length source → Going (take i source) place ws → Some s ≡ step_of place (2047 - length ws) (get_or source i 0) → s.wrote ≡ Some v → Going (take (i + 1) source) s.place (ws ++ v ∷ [])
 writes_on source i place ws s v lt g e some =
     one_more source i s.place (ws ++ v ∷ []) lt (ends (take i source) (get_or source i 0) v place s.place ws g
-      (subst (FollowsBy place (2047 - length ws) (get_or source i 0) s.place) some (by_step source i place ws (Some s) g e)))
+    (subst (FollowsBy place (2047 - length ws) (get_or source i 0) s.place) some (by_step source i place ws (Some s) g e)))
 
 pub refused : (source : List ℕ) (i : ℕ) (place : Place) (ws : List ℕ) → i < length source → Going (take i source) place ws → None ≡ step_of place (2047 - length ws) (get_or source i 0) → DepartsAt source i
 refused source i place ws lt g e = departs source i place ws lt g (by_step source i place ws None g e)

@@ -21,9 +21,9 @@ IsDigit-push (d ∷ ds) b all is = (all.0, IsDigit-push ds b all.1 is)
 pub IsDigit-decimal : (n : ℕ) → n < 2 ^ 64 → AllByRecursion IsDigit (decimal n)
 IsDigit-decimal n small =
     decimal_by_steps (λ _ ds. AllByRecursion IsDigit ds)
-      (λ d lt. (record { low = omega arith; high = omega arith }, tt))
-      (λ m ds le all. IsDigit-push ds (48 + m % 10) all (record { low = omega arith; high = omega arith }))
-      n small
+    (λ d lt. (record { low = omega arith; high = omega arith }, tt))
+    (λ m ds le all. IsDigit-push ds (48 + m % 10) all (record { low = omega arith; high = omega arith }))
+    n small
 
 -- one digit more behind a number that isn't 0
 pub decimal_more : (v b : ℕ) → 0 < v → 10 * v + (b - 48) < 2 ^ 64 → IsDigit b → decimal (10 * v + (b - 48)) ≡ decimal v ++ b ∷ []
@@ -50,7 +50,7 @@ pub front-le : (m k : ℕ) (more : List ℕ) → m < 2 ^ 64 → k < 2 ^ 64 → d
 front-le m k more small_m small_k e =
     let all : number_from_digits 10 (map digit_value (decimal m ++ more)) ≡ k = ap (λ (ds : List ℕ). number_from_digits 10 (map digit_value ds)) e ∙ value_decimal k small_k in
     let split : number_from_digits 10 (map digit_value (decimal m ++ more)) ≡ number_from_digits_after 10 (number_from_digits 10 (map digit_value (decimal m))) (map digit_value more) =
-        ap (number_from_digits 10) (map-append digit_value (decimal m) more) ∙ number_after_append 10 0 (map digit_value (decimal m)) (map digit_value more) in
+    ap (number_from_digits 10) (map-append digit_value (decimal m) more) ∙ number_after_append 10 0 (map digit_value (decimal m)) (map digit_value more) in
     let front : number_from_digits 10 (map digit_value (decimal m)) ≡ m = value_decimal m small_m in
     let ge : number_from_digits 10 (map digit_value (decimal m)) ≤ number_from_digits_after 10 (number_from_digits 10 (map digit_value (decimal m))) (map digit_value more) = number_after_ge 10 _ (map digit_value more) (omega arith) in
     omega (arith, all, split, front, ge)

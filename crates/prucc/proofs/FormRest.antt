@@ -155,10 +155,13 @@ within-leads part at left b lt room same true last = record {
   where
     is : b ≡ get_or (fixed_text part) at 0
     is = eqb-true b (get_or (fixed_text part) at 0) same
+
     cell : drop at (fixed_text part) ≡ get_or (fixed_text part) at 0 ∷ drop (at + 1) (fixed_text part)
     cell = drop_more (fixed_text part) at 0 lt
+
     nothing : drop (at + 1) (fixed_text part) ≡ []
     nothing = let e = eqb-true (at + 1) (length (fixed_text part)) last in drop_all (at + 1) (fixed_text part) (omega arith)
+
     rest_is : (y z : List ℕ) → b ∷ y ≡ drop at (fixed_text part) ++ z → y ≡ z
     rest_is y z e = (same_head _ _ _ _ (e ∙ ap (λ (t : List ℕ). t ++ z) cell)).1 ∙ ap (λ (t : List ℕ). t ++ z) nothing
 within-leads part at left b lt room same false last = record {
@@ -169,8 +172,10 @@ within-leads part at left b lt room same false last = record {
   where
     is : b ≡ get_or (fixed_text part) at 0
     is = eqb-true b (get_or (fixed_text part) at 0) same
+
     cell : drop at (fixed_text part) ≡ get_or (fixed_text part) at 0 ∷ drop (at + 1) (fixed_text part)
     cell = drop_more (fixed_text part) at 0 lt
+
     more : at + 1 < length (fixed_text part)
     more = let ne = eqb-false (at + 1) (length (fixed_text part)) last in omega arith
 
@@ -193,12 +198,23 @@ choice-write left room = record {
     writes ks y h (AsHalt none text) = absurd (eqb-false 82 104 refl (same_head _ _ _ _ text).0)
     writes ks y h (AsWrite k others is text) =
         let count : length (k ∷ others) ≤ left = subst (λ (l : List ℕ). length l ≤ left) is h.count in
-        let each : AllByRecursion IsLoadable (k ∷ others) = subst (AllByRecursion IsLoadable) is h.each in
-        (decimal k ++ 59 ∷ body others, cc, record {
-          k = k; others = others; more = decimal k; after = body others;
-          room = room; writes = is; loadable = each.0; number = refl; text = refl;
-          goes_on = record { count = omega arith; each = each.1; text = refl };
-        })
+        let each : AllByRecursion IsLoadable (k ∷ others) = subst (AllByRecursion IsLoadable) is h.each in (
+          decimal k ++ 59 ∷ body others,
+          cc,
+          record {
+            k = k;
+            others = others;
+            more = decimal k;
+            after = body others;
+            room = room;
+            writes = is;
+            loadable = each.0;
+            number = refl;
+            text = refl;
+            goes_on = record { count = omega arith; each = each.1; text = refl };
+          },
+        )
+
     back : (ks y z : List ℕ) → y ≡ codes "30 = " ++ z → IsNumberRest [] left ks z → Rest Choice left ks (82 ∷ y)
     back ks y z e r = record {
       count = rw r.writes (let c = r.goes_on.count in omega arith);
@@ -270,10 +286,18 @@ next_by digits left b ks y r (m ∷ ms) is =
     let heads = same_head _ _ _ _ e in
     let number : digits ++ b ∷ ms ≡ decimal r.k = ap (λ (c : ℕ). digits ++ c ∷ ms) heads.0 ∙ ap (λ (l : List ℕ). digits ++ l) (sym is) ∙ r.number in
     NextDigit (digit_of digits b ms (subst (AllByRecursion IsDigit) (sym number) (IsDigit-decimal r.k (loadable-small r.k r.loadable))))
-      (record {
-        k = r.k; others = r.others; more = ms; after = r.after; room = r.room; writes = r.writes; loadable = r.loadable;
-        number = append_assoc digits (b ∷ []) ms ∙ number; text = heads.1; goes_on = r.goes_on;
-      })
+    (record {
+      k = r.k;
+      others = r.others;
+      more = ms;
+      after = r.after;
+      room = r.room;
+      writes = r.writes;
+      loadable = r.loadable;
+      number = append_assoc digits (b ∷ []) ms ∙ number;
+      text = heads.1;
+      goes_on = r.goes_on;
+    })
   where
     digit_of : (ds : List ℕ) (c : ℕ) (cs : List ℕ) → AllByRecursion IsDigit (ds ++ c ∷ cs) → IsDigit c
     digit_of [] c cs all = all.0
@@ -284,8 +308,16 @@ next_of digits left b ks y r = next_by digits left b ks y r r.more refl
 
 digit_before : (digits : List ℕ) (left b : ℕ) (ks y : List ℕ) → IsNumberRest (digits ++ b ∷ []) left ks y → IsNumberRest digits left ks (b ∷ y)
 digit_before digits left b ks y r = record {
-  k = r.k; others = r.others; more = b ∷ r.more; after = r.after; room = r.room; writes = r.writes; loadable = r.loadable;
-  number = sym (append_assoc digits (b ∷ []) r.more) ∙ r.number; text = ap (λ (l : List ℕ). b ∷ l) r.text; goes_on = r.goes_on;
+  k = r.k;
+  others = r.others;
+  more = b ∷ r.more;
+  after = r.after;
+  room = r.room;
+  writes = r.writes;
+  loadable = r.loadable;
+  number = sym (append_assoc digits (b ∷ []) r.more) ∙ r.number;
+  text = ap (λ (l : List ℕ). b ∷ l) r.text;
+  goes_on = r.goes_on;
 }
 
 -- a digit that goes on with the number
@@ -310,18 +342,19 @@ number-follows left b room = elim (cases_Bool (is_digit b)) [
       let high = is.high in
       rw digit (digit-leads Number [] left b (b - 48) (λ ks y h. h) (λ ks y h. h) room (omega arith) (digit_ne b is) (decimal_one b is))
   | inr other ↦ rw other (λ ks y h. elim (next_of [] left b ks y h) [
-      | NextDigit is rest ↦ false≢true (sym other ∙ is_digit-holds b is)
-      | NextEnds is k others writes l n goes_on ↦
-          let some = decimal_nonempty k (loadable-small k l) in
-          let none : 0 ≡ length (decimal k) = ap length n in
-          omega arith
-    ])
+    | NextDigit is rest ↦ false≢true (sym other ∙ is_digit-holds b is)
+    | NextEnds is k others writes l n goes_on ↦
+        let some = decimal_nonempty k (loadable-small k l) in
+        let none : 0 ≡ length (decimal k) = ap length n in
+        omega arith
+  ])
 ]
 
 -- a write's number ends
 digits-ends : (left v : ℕ) → 0 < left → IsLoadable v → Ends (Digits v) left 59 (Within Between 0) v
 digits-ends left v room loadable = record {
-  room = room; loadable = loadable;
+  room = room;
+  loadable = loadable;
   open_still = (omega arith, tt);
   to = λ ks y h. elim (next_of (decimal v) left 59 ks y h) [
     | NextDigit is rest ↦ absurd (digit_ne 59 is refl)
@@ -330,8 +363,16 @@ digits-ends left v room loadable = record {
         (others, writes ∙ ap (λ (m : ℕ). m ∷ others) (sym same), between others y goes_on)
   ];
   from = λ others y h. record {
-    k = v; others = others; more = []; after = y; room = room; writes = refl; loadable = loadable;
-    number = append-nil (decimal v); text = refl; goes_on = subst (IsBody (left - 1) others) (sym h.1) h.2;
+    k = v;
+    others = others;
+    more = [];
+    after = y;
+    room = room;
+    writes = refl;
+    loadable = loadable;
+    number = append-nil (decimal v);
+    text = refl;
+    goes_on = subst (IsBody (left - 1) others) (sym h.1) h.2;
   };
 }
   where
@@ -360,7 +401,7 @@ digits-refuses left v b other loadable none ks y h = elim (next_of (decimal v) l
     | inr zero_only ↦
         let nothing : v ≡ 0 = omega arith in
         no_leading_zero rest.k b rest.more (loadable-small rest.k rest.loadable)
-          (ap (λ (n : ℕ). decimal n ++ b ∷ rest.more) (sym nothing) ∙ sym (append_assoc (decimal v) (b ∷ []) rest.more) ∙ rest.number)
+        (ap (λ (n : ℕ). decimal n ++ b ∷ rest.more) (sym nothing) ∙ sym (append_assoc (decimal v) (b ∷ []) rest.more) ∙ rest.number)
   ]
 ]
 

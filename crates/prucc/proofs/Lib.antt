@@ -4,3 +4,6 @@ pub mod FormLoop
 pub mod RunSteps
 pub mod SixWords
 pub mod Told
+pub mod TopBuild
+pub mod Front
+pub mod TopRun

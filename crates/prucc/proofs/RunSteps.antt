@@ -46,7 +46,7 @@ shown_load k registers small long = ap (λ (v : ℕ). Some (events.Write Reg30 B
   where
     bytes : drop 120 (take 120 registers ++ (to_le_bytes w32 k ++ drop 124 registers)) ≡ to_le_bytes w32 k
     bytes = drop_at (take 120 registers) (to_le_bytes w32 k ++ drop 124 registers) 120 (omega (arith, length-take 120 registers))
-      ∙ ap (λ (t : List ℕ). to_le_bytes w32 k ++ t) (drop_all 124 registers (omega arith)) ∙ append-nil (to_le_bytes w32 k)
+        ∙ ap (λ (t : List ℕ). to_le_bytes w32 k ++ t) (drop_all 124 registers (omega arith)) ∙ append-nil (to_le_bytes w32 k)
 
 -- ---- the words of the code
 
@@ -112,10 +112,10 @@ next_word words ks core new i out trace t loadable code shows step = elim (cases
       let is : i ≡ Ldi output_register k = some_is i (Ldi output_register k) (step.only (Ldi output_register k) small at) in
       let next : suc t ≡ t + 1 = omega arith in
       let out_now : out ≡ record { event = Some (events.Write Reg30 B4 k); stop = Going } =
-        step.out_is ∙ ap (outcome core) is ∙ ap (λ (e : Option Event). record { event = e; stop = Going }) (shown_load k core.registers small step.size) in
+      step.out_is ∙ ap (outcome core) is ∙ ap (λ (e : Option Event). record { event = e; stop = Going }) (shown_load k core.registers small step.size) in
       let pc_now : new.pc ≡ core.pc + 1 = ap (λ (c : Core). c.pc) (step.core_is ∙ ap (core_after core) is) in
       AnotherWrite lt (ap (λ (o : StepOut). o.stop) out_now) (pc_now ∙ ap (λ (n : ℕ). n + 1) shows.pc)
-        (ap (λ (o : StepOut). trace ++ stamped o.event t) out_now ∙ push_shown ks t (events.Write Reg30 B4 k) shows.within (take_write ks t lt) trace shows.trace_is ∙ ap (λ (n : ℕ). stamped_from 0 (take n (meaning ks))) next)
+      (ap (λ (o : StepOut). trace ++ stamped o.event t) out_now ∙ push_shown ks t (events.Write Reg30 B4 k) shows.within (take_write ks t lt) trace shows.trace_is ∙ ap (λ (n : ℕ). stamped_from 0 (take n (meaning ks))) next)
   | inr le ↦
       let last : t ≡ length ks = let within = shows.within in omega arith in
       let at : slice_get words core.pc ≡ Some (word_of Halt) = ap (λ (n : ℕ). slice_get words n) (shows.pc ∙ last) ∙ ap (λ (ws : List ℕ). slice_get ws (length ks)) code ∙ get_halt ks in
@@ -124,7 +124,7 @@ next_word words ks core new i out trace t loadable code shows step = elim (cases
       let out_now : out ≡ record { event = Some events.Halted; stop = Halted } = step.out_is ∙ ap (outcome core) is in
       let more : take (suc t) (meaning ks) ≡ take t (meaning ks) ++ events.Halted ∷ [] = subst (λ (n : ℕ). take (suc n) (meaning ks) ≡ take n (meaning ks) ++ events.Halted ∷ []) (sym last) (take_halt ks) in
       TheHalt last (ap (λ (o : StepOut). o.stop) out_now)
-        (ap (λ (o : StepOut). trace ++ stamped o.event t) out_now ∙ push_shown ks t events.Halted shows.within more trace shows.trace_is ∙ ap (λ (n : ℕ). stamped_from 0 (take n (meaning ks))) next)
+      (ap (λ (o : StepOut). trace ++ stamped o.event t) out_now ∙ push_shown ks t events.Halted shows.within more trace shows.trace_is ∙ ap (λ (n : ℕ). stamped_from 0 (take n (meaning ks))) next)
 ]
   where
     some_is : (a b : Inst) → Some a ≡ Some b → a ≡ b

@@ -40,15 +40,16 @@ pub three_fronts : (r : Asked) (inputs : Inputs) (a b c d : Option Held) → Tel
     → Tells a d (HoldsInputs r inputs)
 three_fronts r inputs a b c d p q s =
     Tells-then a c d (Fronts r inputs) (HoldsFront inputs.script.items r.script 1048576) (HoldsInputs r inputs)
-      (λ x y z h k. record {
-        zero = h.0.front; one = h.1.front;
-        script = front-before x y inputs.script.items r.script 1048577 h.0.same k.front;
-        same = same-then x y z h.0.same k.same;
-      })
-      (Tells-then a b c (HoldsFront inputs.zero.items r.zero 65536) (HoldsFront inputs.one.items r.one 65536) (Fronts r inputs)
-        (λ x y z h k. (record { front = h.front; same = same-then x y z h.same k.same }, record { front = front-before x y inputs.one.items r.one 65537 h.same k.front; same = same-then x y z h.same k.same }))
-        p q)
-      s
+    (λ x y z h k. record {
+      zero = h.0.front;
+      one = h.1.front;
+      script = front-before x y inputs.script.items r.script 1048577 h.0.same k.front;
+      same = same-then x y z h.0.same k.same;
+    })
+    (Tells-then a b c (HoldsFront inputs.zero.items r.zero 65536) (HoldsFront inputs.one.items r.one 65536) (Fronts r inputs)
+    (λ x y z h k. (record { front = h.front; same = same-then x y z h.same k.same }, record { front = front-before x y inputs.one.items r.one 65537 h.same k.front; same = same-then x y z h.same k.same }))
+    p q)
+    s
 
 pub same_twice : (a b c : Option Held) → Tells a b IsSameFiles → Tells b c IsSameFiles → Tells a c IsSameFiles
 same_twice a b c p q = Tells-then a b c IsSameFiles IsSameFiles IsSameFiles same-then p q

@@ -71,25 +71,16 @@ pub record CutsFile (name bytes : List ℕ) (before after : Held) : Type 0 where
   pub cut_short : IsCutShort bytes (before name) (after name)
   pub others : IsSameButFor name before after
 
--- the write of the file failed
-pub record FileFails (name bytes file : List ℕ) (held now : Option Held) (faults after : ℕ) (taken later : Option (List ℕ)) : Type 0 where
-  pub file_is : file ≡ name
-  pub rose : Rose faults after
-  pub left : Tells held now (CutsFile name bytes)
-  pub untouched : IsUntouched taken later
+-- why a write fails: the files failed, which may have cut the file short, or memory was wanting, and no file has changed
+abbrev pub WriteFails : List ℕ → List ℕ → Option Held → Option Held → ℕ → ℕ → Status → Type 0
+WriteFails name bytes held now faults after (WriteFault file) = (file ≡ name) × Rose faults after × Tells held now (CutsFile name bytes)
+WriteFails name bytes held now faults after NoMemory = Tells held now IsSameFiles
+WriteFails name bytes held now faults after other = ⊥
 
--- the sink failed, behind the write of the file
-pub record SinkFails (name bytes text file : List ℕ) (held now : Option Held) (taken later : Option (List ℕ)) (faults after : ℕ) : Type 0 where
-  pub file_is : file ≡ sink_name
-  pub rose : Rose faults after
-  pub left : Tells held now (HoldsFile name bytes)
-  pub front : Tells taken later (λ old new. AppendsFront old text new)
-
-abbrev pub WriteFails : List ℕ → List ℕ → List ℕ → Option Held → Option Held → ℕ → ℕ → Option (List ℕ) → Option (List ℕ) → ℕ → ℕ → Status → Type 0
-WriteFails name bytes text held now faults after taken later sink_faults sink_after (WriteFault file) =
-    FileFails name bytes file held now faults after taken later ⊎ SinkFails name bytes text file held now taken later sink_faults sink_after
-WriteFails name bytes text held now faults after taken later sink_faults sink_after NoMemory = Tells held now IsSameFiles × IsUntouched taken later
-WriteFails name bytes text held now faults after taken later sink_faults sink_after other = ⊥
+-- why lines aren't taken: the sink failed, and has taken a front of them
+abbrev pub PutFails : List ℕ → List ℕ → Option (List ℕ) → Option (List ℕ) → ℕ → ℕ → Status → Type 0
+PutFails name text taken later faults after (WriteFault file) = (file ≡ name) × Rose faults after × Tells taken later (λ old new. AppendsFront old text new)
+PutFails name text taken later faults after other = ⊥
 
 -- the write of the events failed, or the sink
 pub data OutputFails (r : Asked) (file : List ℕ) (held now : Option Held) (faults after : ℕ) (taken later : Option (List ℕ)) (sink_faults sink_after : ℕ) : Type 0 where

@@ -121,10 +121,7 @@ impl Core {
         put_part(&mut self.registers, 4 * d.reg as usize, d.part, n);
         if d.reg == 30 {
             let [.., b0, b1, b2, b3] = self.registers;
-            return Some(write_event(
-                Place::Reg30,
-                u32::from_le_bytes([b0, b1, b2, b3]),
-            ));
+            return Some(write_event(Place::Reg30, u32::from_le_bytes([b0, b1, b2, b3])));
         }
         None
     }

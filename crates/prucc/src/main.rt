@@ -1,4 +1,4 @@
-//! The compiler's program.
+//! `prucc`: compiles C for the two real-time cores of the PRU-ICSS, and runs what it compiled.
 #![tactic(auto)]
 
 mod code;
@@ -9,6 +9,44 @@ mod request;
 mod run;
 mod status;
 mod summary;
+#[cfg(test)]
+mod tests;
 mod top;
 
-fn main() {}
+use fileset::{HostFiles, HostSink};
+use status::Status;
+use std::process::ExitCode;
+use std::{env, io};
+use top::prucc;
+
+// The words after the program's name. One that isn't UTF-8 is no word that the program knows.
+fn words(rt: &HostRuntime) -> Result<Vec<String>, Status> {
+    let args = match env::args(rt) {
+        Ok(args) => args,
+        Err(error) if error.kind() == io::ErrorKind::OutOfMemory => return Err(Status::NoMemory),
+        Err(_) => return Err(Status::Words),
+    };
+    Ok(args.skip(1).collect(rt.alloc())?)
+}
+
+fn run_host(rt: &HostRuntime) -> Status {
+    match words(rt) {
+        Ok(words) => prucc(
+            rt.alloc(),
+            &words,
+            &mut HostFiles::new(rt),
+            &mut HostSink::new(rt),
+        ),
+        Err(status) => status,
+    }
+}
+
+fn main(rt: HostRuntime) -> ExitCode {
+    let status = run_host(&rt);
+    let number = status.number();
+    if number != 0 {
+        // The exit status says it, too, where nobody reads the text.
+        let _ = eprintln!(rt; "{status}");
+    }
+    ExitCode::from(number)
+}

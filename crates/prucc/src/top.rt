@@ -8,8 +8,8 @@ ghost use Rattle.fileset.specs.Faults.{Rose};
 ghost use Rattle.prucc.specs.Form.{IsLoadable, Writes};
 ghost use Rattle.prucc.specs.Run.{ShowsMeaning};
 ghost use Rattle.prucc.specs.Request.{Asked, Asks, texts, asked};
-ghost use Rattle.prucc.specs.Answers.{IsUntouched};
-ghost use Rattle.prucc.specs.RunAnswer.{ReadFails, HoldsFront, InputFails, HoldsInputs, NotBuiltBehind, SourceFails, Builds, BuildFails, HoldsFile, WriteFails, RunFails};
+ghost use Rattle.prucc.specs.Answers.{AskFor, HasTaken, IsUntouched, Finishes, IsNotBuiltFrom, IsInput, IsBeforeWrites, IsBeforeSink};
+ghost use Rattle.prucc.specs.RunAnswer.{ReadFails, HoldsFront, InputFails, HoldsInputs, NotBuiltBehind, SourceFails, Builds, BuildFails, HoldsFile, WriteFails, PutFails, OutputFails, RunFails};
 
 use crate::code::words_of;
 use crate::form::{FormFault, writes_of};
@@ -66,11 +66,7 @@ fn read_file<F: Files>(
     }
 }
 
-fn read_inputs<F: Files>(
-    alloc: Global,
-    files: &mut F,
-    request: &Request,
-) -> Result<Inputs, Status>
+fn read_inputs<F: Files>(alloc: Global, files: &mut F, request: &Request) -> Result<Inputs, Status>
     ensures inputs { IfOk result (λ inputs. Tells (F.told files.old) (F.told files.new) (HoldsInputs (asked request.now) inputs)) }
     ensures within { IfOk result (λ inputs. (length inputs.zero.items ≤ 65537) × (length inputs.one.items ≤ 65537)) }
     ensures same { Tells (F.told files.old) (F.told files.new) IsSameFiles }
@@ -136,4 +132,88 @@ fn build(alloc: Global, request: &Request, inputs: &Inputs) -> Result<Output, St
     push_core_line(&mut summary, 0, &zero)?;
     push_core_line(&mut summary, 1, &one)?;
     Ok(Output { events, summary })
+}
+
+fn write_file<F: Files>(files: &mut F, name: Name, bytes: &[u8]) -> Result<(), Status>
+    ensures ok { OnOk result (Tells (F.told files.old) (F.told files.new) (HoldsFile name bytes.now)) }
+    ensures err { IfErr result (WriteFails name bytes.now (F.told files.old) (F.told files.new) (F.faults files.old) (F.faults files.new)) }
+    ensures grows { F.faults files.old ≤ F.faults files.new }
+{
+    match files.write(name.as_str(), bytes) {
+        Ok(()) => Ok(()),
+        Err(FileFault::Memory) => Err(Status::NoMemory),
+        Err(FileFault::Failed) => Err(Status::WriteFault { name }),
+    }
+}
+
+// The sink is told by a name of its own.
+fn put_lines<S: Sink>(out: &mut S, name: Name, text: &String) -> Result<(), Status>
+    ensures ok { OnOk result (HasTaken (string_bytes text.now) (S.told out.old) (S.told out.new)) }
+    ensures err { IfErr result (PutFails name (string_bytes text.now) (S.told out.old) (S.told out.new) (S.faults out.old) (S.faults out.new)) }
+{
+    match out.put(text.as_bytes()) {
+        Ok(()) => Ok(()),
+        Err(_) => Err(Status::WriteFault { name }),
+    }
+}
+
+fn run_words<F: Files, S: Sink>(
+    alloc: Global,
+    words: &[String],
+    files: &mut F,
+    out: &mut S,
+) -> Result<(), Status>
+    ensures ok { OnOk result (AskFor (texts words.now)
+        (λ r. Tells (F.told files.old) (F.told files.new) (Finishes r (S.told out.old) (S.told out.new)))) }
+    ensures err { IfErr result (RunFails (texts words.now) (F.told files.old) (F.told files.new) (F.faults files.old) (F.faults files.new)
+        (S.told out.old) (S.told out.new) (S.faults out.old) (S.faults out.new)) }
+{
+    let Some(request) = Request::from_words(alloc, words)? else {
+        return Err(Status::Words);
+    };
+    // A write that failed wants no memory to say so.
+    let events_name = request.events_name(alloc)?;
+    let sink_name = Name::of(alloc, "-")?;
+    let inputs = read_inputs(alloc, files, &request)?;
+    let output = build(alloc, &request, &inputs)?;
+    write_file(files, events_name, &output.events)?;
+    put_lines(out, sink_name, &output.summary)
+}
+
+/// Does what the words ask for, and says how it ended.
+///
+/// Reads the two sources and the script, compiles and runs both sources, writes the file of events and puts the
+/// two lines of the summary to the sink.
+pub fn prucc<F: Files, S: Sink>(
+    alloc: Global,
+    words: &[String],
+    files: &mut F,
+    out: &mut S,
+) -> Status
+    // The words are refused exactly where they ask for no run, unless memory is wanting.
+    ensures words { result ≡ Status.Words → (r : Asked) → Asks (texts words.now) r → ⊥ }
+    ensures no_run { ((r : Asked) → Asks (texts words.now) r → ⊥) → (result ≡ Status.Words) ⊎ (result ≡ Status.NoMemory) }
+
+    ensures done { result ≡ Status.Done → AskFor (texts words.now)
+        (λ r. Tells (F.told files.old) (F.told files.new) (Finishes r (S.told out.old) (S.told out.new))) }
+
+    // The first file that isn't built yet, at the place from which it isn't.
+    ensures not_built { (name : List ℕ) (line column : ℕ) → result ≡ Status.NotBuilt name line column → AskFor (texts words.now)
+        (λ r. Tells (F.told files.old) (F.told files.new) (λ before _. IsNotBuiltFrom before r name line column)) }
+
+    // A fault is the files' or the sink's: its count rose in this call.
+    ensures read { (name : List ℕ) → result ≡ Status.ReadFault name → AskFor (texts words.now)
+        (λ r. IsInput r name × Rose (F.faults files.old) (F.faults files.new)) }
+    ensures write { (name : List ℕ) → result ≡ Status.WriteFault name → AskFor (texts words.now)
+        (λ r. OutputFails r name (F.told files.old) (F.told files.new) (F.faults files.old) (F.faults files.new)
+        (S.told out.old) (S.told out.new) (S.faults out.old) (S.faults out.new)) }
+
+    // What a refusal leaves.
+    ensures files_kept { IsBeforeWrites result → Tells (F.told files.old) (F.told files.new) IsSameFiles }
+    ensures sink_kept { IsBeforeSink result → IsUntouched (S.told out.old) (S.told out.new) }
+{
+    match run_words(alloc, words, files, out) {
+        Ok(()) => Status::Done,
+        Err(status) => status,
+    }
 }

@@ -19,11 +19,7 @@ fn push_core(text: &mut String, core: u8, trace: &[Stamped]) -> Result<(), Memor
 }
 
 /// The text of both cores' events, without their cycles.
-pub fn print_events(
-    alloc: Global,
-    zero: &[Stamped],
-    one: &[Stamped],
-) -> Result<Vec<u8>, Memory>
+pub fn print_events(alloc: Global, zero: &[Stamped], one: &[Stamped]) -> Result<Vec<u8>, Memory>
     ensures { IfOk result (λ text. text.items ≡ events_text (events_of zero.now) (events_of one.now)) }
 {
     let mut text = String::new(alloc);

@@ -50,7 +50,8 @@ fn each_event_has_its_line(rt: HostRuntime) -> Result<(), Fail> {
         at(12, Event::Leave(63)),
     ];
     let text = print_events(rt.alloc(), &zero, &one)?;
-    let wanted = b"core 0\nW R30 4 00000005\nR R31 4 400000ff\nR 00010000 1 000000fe\nW P2.29 2 0000abcd\nH\ncore 1\nE 63\nI 10\nO 10\nL 63\n";
+    let wanted =
+        b"core 0\nW R30 4 00000005\nR R31 4 400000ff\nR 00010000 1 000000fe\nW P2.29 2 0000abcd\nH\ncore 1\nE 63\nI 10\nO 10\nL 63\n";
     assert_eq!(rt; text.as_slice(), wanted.as_slice());
     Ok(())
 }

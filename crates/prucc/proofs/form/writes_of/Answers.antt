@@ -31,9 +31,9 @@ whole source i place ws le g = subst (λ (f : List ℕ). Going f place ws) (take
 pub returns-then-is_end : goal.returns-then-is_end
 returns-then-is_end c =
     finishes c.args.source.now c.loop-at.writes.items
-      (subst (λ (p : Place). Going c.args.source.now p c.loop-at.writes.items) (c.if-is_end.ensures.0 refl) (whole c.args.source.now c.loop-at.at c.loop-at.place c.loop-at.writes.items c.loop-at-test.false c.loop-at.invariant))
+    (subst (λ (p : Place). Going c.args.source.now p c.loop-at.writes.items) (c.if-is_end.ensures.0 refl) (whole c.args.source.now c.loop-at.at c.loop-at.place c.loop-at.writes.items c.loop-at-test.false c.loop-at.invariant))
 
 pub returns-else-is_end : goal.returns-else-is_end
 returns-else-is_end c =
     stops c.args.source.now c.loop-at.place c.loop-at.writes.items
-      (whole c.args.source.now c.loop-at.at c.loop-at.place c.loop-at.writes.items c.loop-at-test.false c.loop-at.invariant) (λ e. false≢true (c.if-is_end.ensures.1 e))
+    (whole c.args.source.now c.loop-at.at c.loop-at.place c.loop-at.writes.items c.loop-at-test.false c.loop-at.invariant) (λ e. false≢true (c.if-is_end.ensures.1 e))

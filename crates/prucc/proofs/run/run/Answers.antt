@@ -23,10 +23,10 @@ pub returns-then-not-is_going : goal.returns-then-not-is_going
 returns-then-not-is_going c =
     let step : Stepped c.args.words.now c.loop-time.core c.step-event.new.self c.in-Some.inst c.step-event.result = record { only = c.in-Some.ensures.only; size = c.step-event.ensures.size; core_is = c.step-event.ensures.core; out_is = c.step-event.ensures.out } in
     halts c.args.words.now c.args.cycles c.loop-time.core c.step-event.new.self c.in-Some.inst c.step-event.result c.loop-time.trace.items c.loop-time.time c.loop-time.count _ c.loop-time-test.true c.loop-time.invariant step
-      (λ e. false≢true (sym c.if-not-is_going.true ∙ c.is_going.ensures.1 e)) (behind c.loop-time.trace.items c.push_event.new.trace.items c.step-event.result.event c.loop-time.time c.cost-time.result c.in_ok-push_event.ensures c.cost-time.ensures) refl refl
+    (λ e. false≢true (sym c.if-not-is_going.true ∙ c.is_going.ensures.1 e)) (behind c.loop-time.trace.items c.push_event.new.trace.items c.step-event.result.event c.loop-time.time c.cost-time.result c.in_ok-push_event.ensures c.cost-time.ensures) refl refl
 
 pub loop-time-preserved : goal.loop-time-preserved
 loop-time-preserved c =
     let step : Stepped c.args.words.now c.loop-time.core c.step-event.new.self c.in-Some.inst c.step-event.result = record { only = c.in-Some.ensures.only; size = c.step-event.ensures.size; core_is = c.step-event.ensures.core; out_is = c.step-event.ensures.out } in
     rw c.cost-time.ensures (goes_on c.args.words.now c.args.cycles c.loop-time.core c.step-event.new.self c.in-Some.inst c.step-event.result c.loop-time.trace.items c.push_event.new.trace.items c.loop-time.time c.loop-time.count c.loop-time-test.true c.loop-time.invariant step
-      c.step-event.ensures.counter (c.is_going.ensures.0 c.if-not-is_going.false) (behind c.loop-time.trace.items c.push_event.new.trace.items c.step-event.result.event c.loop-time.time c.cost-time.result c.in_ok-push_event.ensures c.cost-time.ensures))
+    c.step-event.ensures.counter (c.is_going.ensures.0 c.if-not-is_going.false) (behind c.loop-time.trace.items c.push_event.new.trace.items c.step-event.result.event c.loop-time.time c.cost-time.result c.in_ok-push_event.ensures c.cost-time.ensures))

@@ -1,0 +1,1 @@
+void main(void){ __R30 = 5; __halt(); }

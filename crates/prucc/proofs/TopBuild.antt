@@ -1,0 +1,65 @@
+-- What a run builds out of its inputs.
+use Rattle.std.proofs.Common.{◌≡◌, ◌≢◌, ℕ, ◌+◌, ◌≤◌, ◌<◌, List, [], ◌∷◌, ◌++◌, length, map, take, min, ltb, cond, refl, sym, ap, subst, ◌∙◌, append_assoc, arith}
+use Rattle.std.specs.Prelude.{nat_lt, if◌then◌else◌}
+use Rattle.std.proofs.lemmas.List.{length-append, length-map, length-take}
+use Rattle.prunum.specs.declared.width.Width.TheVariants.{B4}
+use Rattle.prutrace.specs.declared.event.Place.TheVariants.{Reg30}
+use Rattle.prutrace.specs.declared.event.Event.{Event}
+use Rattle.prutrace.specs.declared.event.Event.TheVariants as events
+use Rattle.prutrace.specs.declared.event.Stamped.{Stamped}
+use Rattle.prutrace.specs.Text.{events_of, events_text}
+use Rattle.prucc.specs.declared.machine.Stop.{Stop}
+use Rattle.prucc.specs.declared.machine.Stop.TheVariants.{Going, Halted}
+use Rattle.prucc.specs.declared.run.Outcome.{Outcome}
+use Rattle.prucc.specs.declared.status.Status.{Status}
+use Rattle.prucc.specs.declared.status.Status.TheVariants.{Done, Words, ReadFault, WriteFault, NoMemory, NotBuilt}
+use Rattle.prucc.specs.declared.top.Inputs.{Inputs}
+use Rattle.prucc.specs.Form.{Writes}
+use Rattle.prucc.specs.Meaning.{meaning, shown_in, event_count}
+use Rattle.prucc.specs.Run.{stamped_from, ShowsMeaning}
+use Rattle.prucc.specs.Request.{Asked}
+use Rattle.prucc.specs.Summary.{core_line, summary_line}
+use Rattle.prucc.specs.Answers.{NotBuiltAt, OfZero, OfOne, events_file}
+use Rattle.prucc.specs.RunAnswer.{SourceFails, BuildFails}
+
+pub events_stamped : (cycle : ℕ) (es : List Event) → events_of (stamped_from cycle es) ≡ es
+events_stamped cycle [] = refl
+events_stamped cycle (e ∷ es) = ap (λ (l : List Event). e ∷ l) (events_stamped (cycle + 1) es)
+
+pub length_stamped : (cycle : ℕ) (es : List Event) → length (stamped_from cycle es) ≡ length es
+length_stamped cycle [] = refl
+length_stamped cycle (e ∷ es) = omega (arith, length_stamped (cycle + 1) es)
+
+length_shown : (n : ℕ) (ks : List ℕ) → length (shown_in n ks) ≡ min n (event_count ks)
+length_shown n ks = omega (arith, length-take n (meaning ks), length-append (map (λ (k : ℕ). events.Write Reg30 B4 k) ks) (events.Halted ∷ []), length-map ks (λ (k : ℕ). events.Write Reg30 B4 k))
+
+-- a run that shows the meaning has the meaning's line
+pub line_is : (core n : ℕ) (ks : List ℕ) (o : Outcome) → ShowsMeaning ks n o → core_line core (length o.trace.items) o.count o.stop ≡ summary_line core n ks
+line_is core n ks o h =
+    let events : length o.trace.items ≡ min n (event_count ks) = ap length h.trace ∙ length_stamped 0 (shown_in n ks) ∙ length_shown n ks in
+    ap (λ (e : ℕ). core_line core e o.count o.stop) events
+    ∙ ap (λ (i : ℕ). core_line core (min n (event_count ks)) i o.stop) h.count
+    ∙ ap (λ (s : Stop). core_line core (min n (event_count ks)) (min n (event_count ks)) s) h.stop
+
+pub events_are : (n : ℕ) (ks0 ks1 : List ℕ) (zero one : Outcome) → ShowsMeaning ks0 n zero → ShowsMeaning ks1 n one → events_text (events_of zero.trace.items) (events_of one.trace.items) ≡ events_file n ks0 ks1
+events_are n ks0 ks1 zero one h k =
+    ap (λ (es : List Event). events_text es (events_of one.trace.items)) (ap events_of h.trace ∙ events_stamped 0 (shown_in n ks0))
+    ∙ ap (λ (es : List Event). events_text (shown_in n ks0) es) (ap events_of k.trace ∙ events_stamped 0 (shown_in n ks1))
+
+-- ---- refusals
+
+pub zero_fails : (r : Asked) (inputs : Inputs) (s : Status) → inputs.script.items ≡ [] → SourceFails r.zero inputs.zero.items s → BuildFails r inputs s
+zero_fails r inputs (NotBuilt file line column) empty h = OfZero empty h.1.0 h.1.1 h.0 h.1.2
+zero_fails r inputs NoMemory empty h = tt
+zero_fails r inputs Done empty h = h
+zero_fails r inputs Words empty h = h
+zero_fails r inputs (ReadFault file) empty h = h
+zero_fails r inputs (WriteFault file) empty h = h
+
+pub one_fails : (r : Asked) (inputs : Inputs) (ks : List ℕ) (s : Status) → inputs.script.items ≡ [] → Writes inputs.zero.items ks → SourceFails r.one inputs.one.items s → BuildFails r inputs s
+one_fails r inputs ks (NotBuilt file line column) empty zero h = OfOne empty ks zero h.1.0 h.1.1 h.0 h.1.2
+one_fails r inputs ks NoMemory empty zero h = tt
+one_fails r inputs ks Done empty zero h = h
+one_fails r inputs ks Words empty zero h = h
+one_fails r inputs ks (ReadFault file) empty zero h = h
+one_fails r inputs ks (WriteFault file) empty zero h = h
