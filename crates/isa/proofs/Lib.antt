@@ -1,1 +1,4 @@
-pub mod Table
+pub mod Formats
+pub mod Operands
+pub mod Ranged
+pub mod WholeWords

@@ -13,6 +13,19 @@ pub(crate) struct Row {
     pub(crate) low: u8,
 }
 
+impl Row {
+    pub(crate) fn new(top: u8, third: u8, second: u8, low: u8) -> Row
+        ensures { result ≡ record { top = top; third = third; second = second; low = low } }
+    {
+        Row {
+            top,
+            third,
+            second,
+            low,
+        }
+    }
+}
+
 pub(crate) fn joined(r: Row) -> u32
     ensures { result ≡ joined r }
 {
@@ -23,10 +36,5 @@ pub(crate) fn split(w: u32) -> Row
     ensures { result ≡ split w }
 {
     let [top, third, second, low] = w.to_be_bytes();
-    Row {
-        top,
-        third,
-        second,
-        low,
-    }
+    Row::new(top, third, second, low)
 }

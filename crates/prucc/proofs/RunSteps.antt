@@ -21,7 +21,7 @@ use Rattle.prucc.specs.declared.run.Outcome.{Outcome}
 use Rattle.prucc.specs.Form.{IsLoadable}
 use Rattle.prucc.specs.Meaning.{meaning, shown_in}
 use Rattle.prucc.specs.Code.{output_register, code_of}
-use Rattle.prucc.specs.Core.{shown_write, core_after, outcome}
+use Rattle.prucc.specs.Core.{IsKnown, shown_write, core_after, outcome}
 use Rattle.prucc.specs.Run.{stamped, stamped_from, ShowsMeaning}
 
 -- a core that runs the code of these writes has done so many words, each in a cycle of its own
@@ -93,7 +93,7 @@ push_shown ks t e le more trace is =
 
 -- what a step did
 pub record Stepped (words : List ℕ) (core new : Core) (i : Inst) (out : StepOut) : Type 0 where
-  pub only : (j : Inst) → Fits j → slice_get words core.pc ≡ Some (word_of j) → Some i ≡ Some j
+  pub only : (j : Inst) → IsKnown j → Fits j → slice_get words core.pc ≡ Some (word_of j) → Some i ≡ Some j
   pub size : length core.registers ≡ 124
   pub core_is : new ≡ core_after core i
   pub out_is : out ≡ outcome core i
@@ -109,7 +109,7 @@ next_word words ks core new i out trace t loadable code shows step = elim (cases
       let k = get_or ks t 0 in
       let small : k < 2 ^ 16 = loadable_at ks t loadable lt in
       let at : slice_get words core.pc ≡ Some (word_of (Ldi output_register k)) = ap (λ (n : ℕ). slice_get words n) shows.pc ∙ ap (λ (ws : List ℕ). slice_get ws t) code ∙ get_code ks t lt in
-      let is : i ≡ Ldi output_register k = some_is i (Ldi output_register k) (step.only (Ldi output_register k) small at) in
+      let is : i ≡ Ldi output_register k = some_is i (Ldi output_register k) (step.only (Ldi output_register k) tt small at) in
       let next : suc t ≡ t + 1 = omega arith in
       let out_now : out ≡ record { event = Some (events.Write Reg30 B4 k); stop = Going } =
       step.out_is ∙ ap (outcome core) is ∙ ap (λ (e : Option Event). record { event = e; stop = Going }) (shown_load k core.registers small step.size) in
@@ -119,7 +119,7 @@ next_word words ks core new i out trace t loadable code shows step = elim (cases
   | inr le ↦
       let last : t ≡ length ks = let within = shows.within in omega arith in
       let at : slice_get words core.pc ≡ Some (word_of Halt) = ap (λ (n : ℕ). slice_get words n) (shows.pc ∙ last) ∙ ap (λ (ws : List ℕ). slice_get ws (length ks)) code ∙ get_halt ks in
-      let is : i ≡ Halt = some_is i Halt (step.only Halt tt at) in
+      let is : i ≡ Halt = some_is i Halt (step.only Halt tt tt at) in
       let next : suc t ≡ t + 1 = omega arith in
       let out_now : out ≡ record { event = Some events.Halted; stop = Halted } = step.out_is ∙ ap (outcome core) is in
       let more : take (suc t) (meaning ks) ≡ take t (meaning ks) ++ events.Halted ∷ [] = subst (λ (n : ℕ). take (suc n) (meaning ks) ≡ take n (meaning ks) ++ events.Halted ∷ []) (sym last) (take_halt ks) in
@@ -132,12 +132,12 @@ next_word words ks core new i out trace t loadable code shows step = elim (cases
 
 -- a word stands at the counter until the halt is done
 pub some_word : (words ks : List ℕ) (core : Core) (trace : List Stamped) (t : ℕ) → AllByRecursion IsLoadable ks → IsCodeOf words ks → ShowsSoFar ks core trace t
-    → (i : Inst) × Fits i × (slice_get words core.pc ≡ Some (word_of i))
+    → (i : Inst) × IsKnown i × Fits i × (slice_get words core.pc ≡ Some (word_of i))
 some_word words ks core trace t loadable code shows = elim (cases_lt t (length ks)) [
-  | inl lt ↦ (Ldi output_register (get_or ks t 0), loadable_at ks t loadable lt, ap (λ (n : ℕ). slice_get words n) shows.pc ∙ ap (λ (ws : List ℕ). slice_get ws t) code ∙ get_code ks t lt)
+  | inl lt ↦ (Ldi output_register (get_or ks t 0), tt, loadable_at ks t loadable lt, ap (λ (n : ℕ). slice_get words n) shows.pc ∙ ap (λ (ws : List ℕ). slice_get ws t) code ∙ get_code ks t lt)
   | inr le ↦
       let last : t ≡ length ks = let within = shows.within in omega arith in
-      (Halt, tt, ap (λ (n : ℕ). slice_get words n) (shows.pc ∙ last) ∙ ap (λ (ws : List ℕ). slice_get ws (length ks)) code ∙ get_halt ks)
+      (Halt, tt, tt, ap (λ (n : ℕ). slice_get words n) (shows.pc ∙ last) ∙ ap (λ (ws : List ℕ). slice_get ws (length ks)) code ∙ get_halt ks)
 ]
 
 -- ---- the loop

@@ -31,15 +31,22 @@ shown_write d n registers =
     else if d.reg == 31 then Some (events.Write Reg31 B4 (given_to_input d.part n))
     else None
 
+-- the instructions that the core knows so far
+abbrev pub IsKnown : Inst → Type 0
+IsKnown (instructions.Ldi d n) = Unit {0}
+IsKnown instructions.Halt = Unit {0}
+IsKnown other = ⊥
+
 -- the core after an instruction
 abbrev pub core_after : Core → Inst → Core
 core_after core (instructions.Ldi d n) = record { pc = core.pc + 1; registers = with_field d n core.registers }
 core_after core other = core
 
--- what an instruction shows, and whether the core goes on: it stops at a halt, and is stuck at what it doesn't know
+-- what an instruction shows, and whether the core goes on: it stops at a halt, and would be stuck at one that it doesn't know
 abbrev pub outcome : Core → Inst → StepOut
 outcome core (instructions.Ldi d n) = record { event = shown_write d n core.registers; stop = stops.Going }
 outcome core instructions.Halt = record { event = Some events.Halted; stop = stops.Halted }
+outcome core other = record { event = None; stop = stops.Stuck }
 
 -- a core at its start: all registers are 0, and the first word is the next
 abbrev pub core_at_start : Core

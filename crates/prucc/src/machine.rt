@@ -4,7 +4,7 @@ ghost use Rattle.std.specs.Prelude.{◌≡◌, ◌+◌, ◌^◌, ◌<◌, ◌≤
 ghost use Rattle.prunum.specs.declared.width.Width.TheVariants.{B4};
 ghost use Rattle.prutrace.specs.declared.event.Event.TheVariants as Event;
 ghost use Rattle.prucc.specs.declared.machine.Stop.TheVariants.{Going};
-ghost use Rattle.prucc.specs.Core.{core_at_start, with_field, given_to_input, shown_write, core_after, outcome};
+ghost use Rattle.prucc.specs.Core.{IsKnown, core_at_start, with_field, given_to_input, shown_write, core_after, outcome};
 ghost use Rattle.prucc.specs.Part.{first_byte, part_length, part_bytes, with_bytes};
 ghost use Rattle.isa.specs.Row.{word_of, Fits};
 ghost use Rattle.isa.specs.declared.inst.Inst.{Inst};
@@ -21,7 +21,7 @@ const REGISTER_BYTES: usize = 124;
 pub enum Stop {
     Going,
     Halted,
-    /// No word stands at its counter.
+    /// No word that it knows stands at its counter.
     Stuck,
 }
 
@@ -103,12 +103,16 @@ impl Core {
         }
     }
 
-    /// The instruction at the counter. None where the words end before it, or none has that word.
+    /// The instruction at the counter. None where the words end before it, or the core doesn't know the word.
     pub fn next(&self, words: &[u32]) -> Option<Inst>
-        ensures found { IfSome result (λ i. slice_get words.now self.now.pc ≡ Some (word_of i)) }
-        ensures only { (i : Inst) → Fits i → slice_get words.now self.now.pc ≡ Some (word_of i) → result ≡ Some i }
+        ensures found { IfSome result (λ i. IsKnown i × (slice_get words.now self.now.pc ≡ Some (word_of i))) }
+        ensures only { (i : Inst) → IsKnown i → Fits i → slice_get words.now self.now.pc ≡ Some (word_of i) → result ≡ Some i }
     {
-        decode(*words.get(self.pc)?)
+        match decode(*words.get(self.pc)?)? {
+            Inst::Ldi { d, n } => Some(Inst::Ldi { d, n }),
+            Inst::Halt => Some(Inst::Halt),
+            _ => None,
+        }
     }
 
     fn write(&mut self, d: Field, n: u16) -> Option<Event>
@@ -128,7 +132,8 @@ impl Core {
 
     /// Runs one instruction.
     pub fn step(&mut self, i: &Inst) -> StepOut
-        requires { self.old.pc + 1 < 2 ^ 64 }
+        requires known { IsKnown i.now }
+        requires counter { self.old.pc + 1 < 2 ^ 64 }
         ensures core { self.new ≡ core_after self.old i.now }
         ensures counter { self.new.pc ≤ self.old.pc + 1 }
         ensures size { length self.old.registers ≡ REGISTER_BYTES }
@@ -147,6 +152,7 @@ impl Core {
                 event: Some(Event::Halted),
                 stop: Stop::Halted,
             },
+            _ => unreachable!(),
         }
     }
 }
@@ -163,9 +169,11 @@ fn write_event(place: Place, value: u32) -> Event
 
 /// How many cycles an instruction takes: one, where it has no memory access.
 pub fn cost(i: &Inst) -> u32
+    requires { IsKnown i.now }
     ensures { result ≡ 1 }
 {
     match i {
         Inst::Ldi { .. } | Inst::Halt => 1,
+        _ => unreachable!(),
     }
 }

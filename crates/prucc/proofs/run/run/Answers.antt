@@ -13,7 +13,7 @@ nothing i e = cc
 pub returns-in_default : goal.returns-in_default
 returns-in_default c = λ ks loadable code.
     let w = some_word c.args.words.now ks c.loop-time.core c.loop-time.trace.items c.loop-time.time loadable code (c.loop-time.invariant.shows ks loadable code) in
-    absurd (nothing w.0 (c.in_default.ensures.only w.0 w.1 w.2))
+    absurd (nothing w.0 (c.in_default.ensures.only w.0 w.1 w.2 w.3))
 
 -- the event stands at the word's last cycle
 behind : (trace after : List Stamped) (e : Option Event) (time cost : ℕ) → after ≡ trace ++ stamped e (time + cost - 1) → cost ≡ 1 → after ≡ trace ++ stamped e time
