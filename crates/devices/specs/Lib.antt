@@ -1,0 +1,4 @@
+pub mod Register
+pub mod Controller
+pub mod HostBits
+pub mod Ports

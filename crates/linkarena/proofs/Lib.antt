@@ -1,0 +1,6 @@
+pub mod ChainLemmas
+pub mod StoreLemmas
+pub mod LinkLemmas
+pub mod ViewLemmas
+pub mod HoldLemmas
+pub mod ArenaLemmas
