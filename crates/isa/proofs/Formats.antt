@@ -1,38 +1,26 @@
 -- Format by format: the row of an instruction is read as that instruction.
-use Rattle.std.proofs.Common.{◌≡◌, ℕ, ◌+◌, ◌-◌, ◌*◌, ◌/◌, ◌%◌, ◌^◌, ◌<◌, ◌≤◌, arith, refl, ap, sym, subst, ◌∙◌, Bool, true, false, cond, Option, Some, None, lit<, lit≤, rules, ◌≢◌, inl, inr}
-use Rattle.std.specs.Prelude.{IsTrue, nat_lt, nat_le, ◌&&◌, option_and_then, ◌⊎◌, ◌==◌, unsigned_abs, ℤ, pos, negsuc, neg_ℤ, ◌-ℤ◌, ◌≤ℤ◌}
-use Rattle.std.proofs.Props.{props}
-use Rattle.std.specs.Int.{int_rem_euclid}
-use Rattle.std.proofs.lemmas.Int.{ints}
+use Rattle.std.proofs.Common.{◌≡◌, ℕ, ◌+◌, ◌-◌, ◌*◌, ◌/◌, ◌%◌, ◌<◌, ◌≤◌, arith, refl, ap, sym, subst, ◌∙◌, Bool, true, false, Some, ◌≢◌}
+use Rattle.std.specs.Prelude.{IsTrue, option_and_then, ◌==◌}
 use Rattle.std.proofs.lemmas.Bool.Decides.{nat_tests}
 use Rattle.isa.specs.declared.access.Access.{Access}
 use Rattle.isa.specs.declared.access.Base.{Base}
 use Rattle.isa.specs.declared.access.Base.TheVariants as base
 use Rattle.isa.specs.declared.access.Constant.{Constant}
-use Rattle.isa.specs.declared.access.Constant.TheVariants.{C0, C4, C24, C25, C28}
 use Rattle.isa.specs.declared.control.BranchOffset.{BranchOffset}
 use Rattle.isa.specs.declared.control.Condition.{Condition}
-use Rattle.isa.specs.declared.control.Condition.TheVariants.{Lt, Eq, Le, Gt, Ne, Ge, BitClear, BitSet}
 use Rattle.isa.specs.declared.control.Jump.{Jump}
 use Rattle.isa.specs.declared.control.Jump.TheVariants as jump
 use Rattle.isa.specs.declared.control.LoopBody.{LoopBody}
-use Rattle.isa.specs.declared.field.Part.{Part}
-use Rattle.isa.specs.declared.field.Part.TheVariants.{B0, B1, B2, B3, W0, W1, W2, All}
 use Rattle.isa.specs.declared.field.Field.{Field}
 use Rattle.isa.specs.declared.field.Operand.{Operand}
 use Rattle.isa.specs.declared.field.Operand.TheVariants as operand
 use Rattle.isa.specs.declared.inst.AluOp.{AluOp}
-use Rattle.isa.specs.declared.inst.AluOp.TheVariants.{Add, Sub, Lsl, Lsr, Rsb, And, Or, Xor, Min, Max, Clr, Set}
-use Rattle.isa.specs.declared.inst.Inst.{Inst}
 use Rattle.isa.specs.declared.inst.Inst.TheVariants.{Alu, Not, Jmp, Jal, Ldi, Lmbd, Halt, Xin, Xout, Loop, Branch, Qba, Load, Store}
 use Rattle.isa.specs.declared.row.Row.{Row}
-use Rattle.isa.specs.declared.transfer.Bank.{Bank}
-use Rattle.isa.specs.declared.transfer.Bank.TheVariants.{Bank0, Bank1, Bank2}
 use Rattle.isa.specs.declared.transfer.Transfer.{Transfer}
-use Rattle.isa.specs.Low.{is_low_base, is_low_operand}
-use Rattle.isa.specs.Ranges.{is_transfer, signed}
-use Rattle.isa.specs.Row.{part_number, op_number, condition_number, device_number, constant_number, field_code, io, operand_code, offset_bits, store_number, load_number, base_number, jump_row, transfer_row, access_row, row, joined, word_of, Fits, OperandFits, JumpFits}
-use Rattle.isa.specs.Decoded.{IsTarget, part_at, op_at, condition_at, bank_at, constant_at, field_at, operand_at, offset_at, where_true, body_at, transfer_at, base_at, length_bits, access_from, access_at, alu_at, target_at, jump_at, single_at, branch_at, memory_at, inst_at, split, decoded}
+use Rattle.isa.specs.Low.{is_low_base}
+use Rattle.isa.specs.Row.{op_number, condition_number, device_number, field_code, io, operand_code, offset_bits, store_number, load_number, base_number, access_row, row}
+use Rattle.isa.specs.Decoded.{operand_at, offset_at, base_at, access_from, access_at, alu_at, jump_at, single_at, branch_at, memory_at}
 use Rattle.isa.proofs.Ranged.{transfer_found, body_found, access_found}
 use Rattle.isa.proofs.Operands.{op_number-is, op_at-op_number, condition_number-is, condition_at-condition_number, bank_at-device_number, constant_at-constant_number, constant_number-lt, field_at-field_code, operand_at-operand_code, io-lt, offset_bits-lt, offset_at-offset_bits}
 

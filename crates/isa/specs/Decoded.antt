@@ -1,5 +1,5 @@
 -- The instruction that has a word: the word table, read from the word. The table decides; that this undoes it is proved.
-use Rattle.std.specs.Prelude.{◌≡◌, ◌≢◌, ℕ, ◌+◌, ◌-◌, ◌*◌, ◌/◌, ◌%◌, ◌^◌, ◌<◌, ◌≤◌, ◌==◌, ◌&&◌, ◌||◌, Bool, true, false, IsTrue, nat_lt, nat_le, if◌then◌else◌, refl, Option, Some, None, option_and_then, ℤ, pos, ◌-ℤ◌}
+use Rattle.std.specs.Prelude.{◌≡◌, ◌≢◌, ℕ, ◌+◌, ◌*◌, ◌/◌, ◌%◌, ◌^◌, ◌==◌, ◌&&◌, ◌||◌, Bool, true, false, IsTrue, nat_lt, nat_le, if◌then◌else◌, refl, Option, Some, None, option_and_then}
 use Rattle.isa.specs.declared.access.Access.{Access}
 use Rattle.isa.specs.declared.access.Base.{Base}
 use Rattle.isa.specs.declared.access.Base.TheVariants as base
@@ -119,7 +119,7 @@ access_from r b o =
       low_offset = Ranges.last_of _ _ (Ranges.first_of _ _ h);
     }))
 
--- constant tells whether the base is a constant
+-- the access of a memory word; `constant` tells whether its base is one
 abbrev pub access_at : Bool → Row → Option Access
 access_at constant r = option_and_then (λ b. access_from r b (operand_at (r.top % 2) r.third)) (base_at constant (r.second % 32))
 
@@ -130,13 +130,13 @@ alu_at r =
     if r.top == 0x16 then (if r.third == 0 then Some (Not (field_at r.low) (field_at r.second)) else None)
     else option_and_then (λ op. Some (Alu op (field_at r.low) (field_at r.second) (operand_at (r.top % 2) r.third))) (op_at (r.top / 2))
 
--- the target of a jump of which the first top byte is 0 or 1
+-- a jump's target, where io is bit 24: a field, or a number
 abbrev pub target_at : ℕ → Row → Option Jump
 target_at io r =
     if io == 0 then (if r.second == 0 then Some (jump.Field (field_at r.third)) else None)
     else Some (jump.Word (r.third * 256 + r.second))
 
--- a jump's bytes, where that bit is bit 24
+-- the bytes are those of a jump to the target, where `bit` is bit 24
 abbrev pub IsTarget : ℕ → Jump → Row → Type 0
 IsTarget bit (jump.Field f) r = (bit ≡ 0) × (field_code f ≡ r.third) × (0 ≡ r.second)
 IsTarget bit (jump.Word n) r = (bit ≢ 0) × (n / 256 ≡ r.third) × (n % 256 ≡ r.second)

@@ -1,11 +1,10 @@
 -- Notes on words, this project's own: which values they have and where each may stand.
-use Rattle.std.specs.Prelude.{◌≡◌, ℕ, ◌^◌, ◌<◌, ◌==◌, ◌&&◌, ◌||◌, Bool, true, false, IsTrue, nat_lt, nat_le, if◌then◌else◌, Option, Some, None, IsSomeAnd, List, [], ◌∷◌, length, slice_index, pos, ◌+ℤ◌, unsigned_abs}
+use Rattle.std.specs.Prelude.{ℕ, ◌^◌, ◌<◌, ◌==◌, ◌&&◌, ◌||◌, Bool, true, false, IsTrue, nat_lt, nat_le, if◌then◌else◌, Option, Some, None, IsSomeAnd, List, [], ◌∷◌, length, slice_index, pos, ◌+ℤ◌, unsigned_abs}
 use Rattle.std.specs.Int.{int_rem_euclid}
 use Rattle.isa.specs.declared.control.BranchOffset.{BranchOffset}
-use Rattle.isa.specs.declared.control.Jump.{Jump}
 use Rattle.isa.specs.declared.control.Jump.TheVariants as jump
 use Rattle.isa.specs.declared.inst.Inst.{Inst}
-use Rattle.isa.specs.declared.inst.Inst.TheVariants.{Alu, Not, Jmp, Jal, Ldi, Lmbd, Halt, Xin, Xout, Loop, Branch, Qba, Load, Store}
+use Rattle.isa.specs.declared.inst.Inst.TheVariants.{Jmp, Branch, Qba, Load, Store}
 use Rattle.isa.specs.declared.note.Note.{Note}
 use Rattle.isa.specs.declared.note.NoteKind.{NoteKind}
 use Rattle.isa.specs.declared.note.NoteKind.TheVariants.{Enter, DelayIn, DelayOut, Leave, Own, Return, Turns}

@@ -1,8 +1,7 @@
 -- What it is for an assembly program to be whole, this project's own.
-use Rattle.std.specs.Prelude.{◌≡◌, ℕ, ◌==◌, ◌&&◌, ◌||◌, Bool, true, false, not, IsTrue, nat_eq, ℤ, List, [], ◌∷◌, All, Contains, pos, negsuc}
+use Rattle.std.specs.Prelude.{◌≡◌, ℕ, ◌==◌, ◌&&◌, Bool, true, false, not, IsTrue, nat_eq, ℤ, List, [], ◌∷◌, All, Contains, pos, negsuc}
 use Rattle.std.specs.List.{list_any, IsDistinct}
 use Rattle.isa.specs.declared.control.BranchOffset.{BranchOffset}
-use Rattle.isa.specs.declared.control.Jump.{Jump}
 use Rattle.isa.specs.declared.control.Jump.TheVariants as jump
 use Rattle.isa.specs.declared.inst.Inst.{Inst}
 use Rattle.isa.specs.declared.inst.Inst.TheVariants.{Jmp, Jal, Ldi, Loop, Branch, Qba}

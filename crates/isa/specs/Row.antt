@@ -11,7 +11,6 @@ use Rattle.isa.specs.declared.control.Condition.{Condition}
 use Rattle.isa.specs.declared.control.Condition.TheVariants.{Lt, Eq, Le, Gt, Ne, Ge, BitClear, BitSet}
 use Rattle.isa.specs.declared.control.Jump.{Jump}
 use Rattle.isa.specs.declared.control.Jump.TheVariants as jump
-use Rattle.isa.specs.declared.control.LoopBody.{LoopBody}
 use Rattle.isa.specs.declared.field.Part.{Part}
 use Rattle.isa.specs.declared.field.Part.TheVariants.{B0, B1, B2, B3, W0, W1, W2, All}
 use Rattle.isa.specs.declared.field.Field.{Field}

@@ -125,24 +125,28 @@ impl Words {
         }
     }
 
+    /// The words, from word 0 on.
     pub fn words(&self) -> &[u32]
         ensures { result.now ≡ self.now.words }
     {
         self.words.as_slice()
     }
 
+    /// The notes on them.
     pub fn notes(&self) -> &[Note]
         ensures { result.now ≡ self.now.notes }
     {
         self.notes.as_slice()
     }
 
+    /// The places of symbols.
     pub fn refs(&self) -> &[Ref]
         ensures { result.now ≡ self.now.refs }
     {
         self.refs.as_slice()
     }
 
+    /// The lines in the source that they were made of.
     pub fn lines(&self) -> &[Line]
         ensures { result.now ≡ self.now.lines }
     {

@@ -1,6 +1,6 @@
 use crate::{
-    Access, AluOp, AsmProgram, Bank, Base, BranchOffset, Condition, Constant, Field, Inst, Item,
-    Jump, LoopBody, Note, NoteKind, Operand, Part, Target, Transfer, Words, decode, encode,
+    Access, AluOp, AsmProgram, Bank, Base, BranchOffset, Condition, Constant, Field, Image, Inst,
+    Item, Jump, LoopBody, Note, NoteKind, Operand, Part, Target, Transfer, Words, decode, encode,
     is_image, is_placed,
 };
 use std::test::Fail;
@@ -354,6 +354,23 @@ fn placed(rt: HostRuntime) {
     ] {
         assert_eq!(rt; is_placed(at, init, zero), is, "{at:x}");
     }
+}
+
+#[test]
+fn image(rt: HostRuntime) -> Result<(), Fail> {
+    let words = vec![in rt.alloc(); 0x2a00_0000]?;
+    let init = vec![in rt.alloc(); 1, 2]?;
+    let notes = Vec::new(rt.alloc());
+    let is = is_image(words.as_slice(), 0x10, init.as_slice(), 6, notes.as_slice());
+    assert!(rt; is);
+    let image = Image::new(words, 0x10, init, 6, notes);
+    assert_eq!(rt; image.words().first().copied(), Some(0x2a00_0000));
+    assert_eq!(rt;
+        (image.data_at(), image.init().len(), image.zero()),
+        (0x10, 2, 6)
+    );
+    assert!(rt; image.notes().is_empty());
+    Ok(())
 }
 
 #[test]

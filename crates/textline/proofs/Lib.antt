@@ -1,1 +1,4 @@
+pub mod DecimalLaws
+pub mod HexLaws
 pub mod HexText
+pub mod SplitLaws

@@ -1,5 +1,5 @@
 -- The body's numbers are those of the word.
-use Rattle.std.proofs.Common.{refl, rules, arith}
+use Rattle.std.proofs.Common.{refl, arith}
 use Rattle.isa.proofs.Ranged.{body_found}
 use Rattle.isa.proofs.decoding.body_at.Goals as goal
 

@@ -1,0 +1,14 @@
+pub mod Runs
+pub mod Numbers
+pub mod Choices
+pub mod Sound
+pub mod QuotedLemmas
+pub mod Words
+pub mod Comments
+pub mod Tables
+pub mod Operators
+pub mod Dispatch
+pub mod Causes
+pub mod TextLemmas
+pub mod Loop
+pub mod Longest

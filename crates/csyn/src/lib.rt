@@ -1,0 +1,21 @@
+//! The tokens of a C source, where they stand, and the numbered rules that a source may break.
+#![tactic(auto)]
+
+mod cause;
+mod fault;
+mod keyword;
+mod punctuator;
+mod span;
+mod text;
+mod token;
+
+pub use cause::Cause;
+pub use fault::SourceFault;
+pub use keyword::{KEYWORDS, Keyword};
+pub use punctuator::{PUNCTUATORS, Punctuator};
+pub use span::Span;
+pub use text::Text;
+pub use token::{Character, Number, Token, TokenKind};
+
+#[cfg(test)]
+mod tests;
