@@ -1,18 +1,18 @@
 -- Reading a source byte by byte: what is known behind each byte.
-use Rattle.std.proofs.Common.{◌≡◌, ◌≢◌, ℕ, suc, ◌+◌, ◌-◌, ◌^◌, ◌<◌, ◌≤◌, List, [], ◌∷◌, ◌++◌, length, get_or, take, drop, Option, Some, None, refl, sym, ap, subst, ◌∙◌, append_assoc, take-add, inl, inr, arith}
+use Rattle.std.proofs.Common.{◌≡◌, ◌≢◌, ℕ, suc, ◌+◌, ◌-◌, ◌<◌, ◌≤◌, List, [], ◌∷◌, ◌++◌, length, get_or, take, drop, Option, Some, None, refl, sym, ap, subst, ◌∙◌, append_assoc, take-add, inl, inr, arith}
 use Rattle.std.specs.Prelude.{codes}
 use Rattle.std.specs.List.{AllByRecursion}
 use Rattle.std.specs.Fmt.{decimal}
 use Rattle.std.proofs.lemmas.Bool.{cases_lt}
-use Rattle.std.proofs.lemmas.List.{append-nil, length-append, length-drop, length-take-le, drop_more, take_more, take_all}
+use Rattle.std.proofs.lemmas.List.{append-nil, length-append, length-drop, drop_more, take_more, take_all}
 use Rattle.prucc.specs.declared.form.Fixed.{Fixed}
 use Rattle.prucc.specs.declared.form.Fixed.TheVariants.{Head, Write, Between, Halt}
 use Rattle.prucc.specs.declared.form.Place.{Place}
 use Rattle.prucc.specs.declared.form.Place.TheVariants.{Within, Choice, Number, Digits, End}
 use Rattle.prucc.specs.declared.form.Step.{Step}
-use Rattle.prucc.specs.Form.{source_text, IsLoadable, AreWrites, Writes, IsBeginning, DepartsAt}
+use Rattle.prucc.specs.Form.{IsLoadable, Writes, IsBeginning, DepartsAt}
 use Rattle.prucc.specs.FormReading.{fixed_text, step_of}
-use Rattle.prucc.proofs.FormRest.{body, IsBody, IsNumberRest, Behind, Rest, HasRoom, IsOpen, Leads, Ends, Refuses, Follows, FollowsBy, follows}
+use Rattle.prucc.proofs.FormRest.{body, IsNumberRest, Behind, Rest, HasRoom, IsOpen, Leads, Ends, Refuses, Follows, FollowsBy, follows}
 
 -- The sources that begin with the front and go on as the place says are those that make the writes so far and others.
 pub record Going (front : List ℕ) (place : Place) (ws : List ℕ) : Type 0 where

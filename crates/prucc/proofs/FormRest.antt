@@ -1,5 +1,5 @@
 -- What may stand behind each place in a source of the form, and that one more byte leads to the right place.
-use Rattle.std.proofs.Common.{◌≡◌, ◌≢◌, ℕ, suc, zero, ◌+◌, ◌-◌, ◌*◌, ◌^◌, ◌<◌, ◌≤◌, Bool, true, false, cond, eqb, ltb, leb, ◌&&◌, not, List, [], ◌∷◌, ◌++◌, length, get_or, drop, Option, Some, None, refl, sym, ap, subst, ◌∙◌, append_assoc, inl, inr, arith}
+use Rattle.std.proofs.Common.{◌≡◌, ◌≢◌, ℕ, suc, ◌+◌, ◌-◌, ◌*◌, ◌^◌, ◌<◌, ◌≤◌, Bool, true, false, cond, eqb, ltb, ◌&&◌, not, List, [], ◌∷◌, ◌++◌, length, get_or, drop, Option, Some, None, refl, sym, ap, subst, ◌∙◌, append_assoc, inl, inr, arith}
 use Rattle.std.specs.Prelude.{codes}
 use Rattle.std.specs.List.{flat_map, AllByRecursion}
 use Rattle.std.specs.Fmt.{decimal}
@@ -12,8 +12,8 @@ use Rattle.prucc.specs.declared.form.Fixed.TheVariants.{Head, Write, Between, Ha
 use Rattle.prucc.specs.declared.form.Place.{Place}
 use Rattle.prucc.specs.declared.form.Place.TheVariants.{Within, Choice, Number, Digits, End}
 use Rattle.prucc.specs.declared.form.Step.{Step}
-use Rattle.prucc.specs.Form.{write_text, source_text, IsLoadable, AreWrites, Writes}
-use Rattle.prucc.specs.FormReading.{fixed_text, behind, IsWithin, is_digit, within, first_digit, more_digits, step_of}
+use Rattle.prucc.specs.Form.{write_text, IsLoadable}
+use Rattle.prucc.specs.FormReading.{fixed_text, behind, IsWithin, is_digit, within, more_digits, step_of}
 use Rattle.prucc.proofs.FormNumbers.{IsDigit, IsDigit-decimal, decimal_more, decimal_one, front-le, no_leading_zero}
 
 -- the writes of these numbers, and the halt

@@ -1,5 +1,5 @@
 -- What is told through several calls.
-use Rattle.std.proofs.Common.{◌≡◌, ℕ, ◌+◌, List, [], Option, Some, None, ap, sym, ◌∙◌, take}
+use Rattle.std.proofs.Common.{◌≡◌, ℕ, List, [], Option, Some, None, ap, ◌∙◌, take}
 use Rattle.std.specs.Prelude.{unwrap_or}
 use Rattle.fileset.specs.Told.{Held, content, Tells, IsSameFiles}
 use Rattle.prucc.specs.declared.top.Inputs.{Inputs}

@@ -1,15 +1,12 @@
 -- What a run builds out of its inputs.
-use Rattle.std.proofs.Common.{◌≡◌, ◌≢◌, ℕ, ◌+◌, ◌≤◌, ◌<◌, List, [], ◌∷◌, ◌++◌, length, map, take, min, ltb, cond, refl, sym, ap, subst, ◌∙◌, append_assoc, arith}
-use Rattle.std.specs.Prelude.{nat_lt, if◌then◌else◌}
+use Rattle.std.proofs.Common.{◌≡◌, ℕ, ◌+◌, List, [], ◌∷◌, length, map, min, refl, ap, ◌∙◌, arith}
 use Rattle.std.proofs.lemmas.List.{length-append, length-map, length-take}
 use Rattle.prunum.specs.declared.width.Width.TheVariants.{B4}
 use Rattle.prutrace.specs.declared.event.Place.TheVariants.{Reg30}
 use Rattle.prutrace.specs.declared.event.Event.{Event}
 use Rattle.prutrace.specs.declared.event.Event.TheVariants as events
-use Rattle.prutrace.specs.declared.event.Stamped.{Stamped}
 use Rattle.prutrace.specs.Text.{events_of, events_text}
 use Rattle.prucc.specs.declared.machine.Stop.{Stop}
-use Rattle.prucc.specs.declared.machine.Stop.TheVariants.{Going, Halted}
 use Rattle.prucc.specs.declared.run.Outcome.{Outcome}
 use Rattle.prucc.specs.declared.status.Status.{Status}
 use Rattle.prucc.specs.declared.status.Status.TheVariants.{Done, Words, ReadFault, WriteFault, NoMemory, NotBuilt}
@@ -19,7 +16,7 @@ use Rattle.prucc.specs.Meaning.{meaning, shown_in, event_count}
 use Rattle.prucc.specs.Run.{stamped_from, ShowsMeaning}
 use Rattle.prucc.specs.Request.{Asked}
 use Rattle.prucc.specs.Summary.{core_line, summary_line}
-use Rattle.prucc.specs.Answers.{NotBuiltAt, OfZero, OfOne, events_file}
+use Rattle.prucc.specs.Answers.{OfZero, OfOne, events_file}
 use Rattle.prucc.specs.RunAnswer.{SourceFails, BuildFails}
 
 pub events_stamped : (cycle : ℕ) (es : List Event) → events_of (stamped_from cycle es) ≡ es

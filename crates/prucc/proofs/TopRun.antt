@@ -1,16 +1,15 @@
 -- The parts of a run, put together.
-use Rattle.std.proofs.Common.{◌≡◌, ℕ, ◌+◌, ◌-◌, ◌^◌, ◌≤◌, min, List, ◌++◌, Option, Some, None, ◌⊎◌, refl, sym, ap, subst, ◌∙◌, inl, inr, arith}
+use Rattle.std.proofs.Common.{◌≡◌, ℕ, ◌≤◌, List, Option, Some, None, ◌⊎◌, refl, sym, ap, subst, ◌∙◌, inl, inr, arith}
 use Rattle.std.specs.String.{string_bytes}
-use Rattle.fileset.specs.Told.{Held, Tells, IsSameFiles, IsSameButFor, IsCutShort, AppendsFront}
+use Rattle.fileset.specs.Told.{Held, Tells, IsSameFiles, IsCutShort, AppendsFront}
 use Rattle.fileset.specs.Faults.{Rose}
 use Rattle.prucc.specs.declared.status.Status.{Status}
 use Rattle.prucc.specs.declared.status.Status.TheVariants.{Done, Words, ReadFault, WriteFault, NoMemory, NotBuilt}
 use Rattle.prucc.specs.declared.top.Inputs.{Inputs}
 use Rattle.prucc.specs.declared.top.Output.{Output}
-use Rattle.prucc.specs.Summary.{summary_text}
 use Rattle.prucc.specs.Request.{Asked, Asks, events_name}
-use Rattle.prucc.specs.Answers.{AskFor, IsBuiltFrom, IsNotBuiltFrom, events_file, WroteEvents, HasTaken, IsUntouched, Finishes, FailedFile, FailedSink, sink_name}
-use Rattle.prucc.specs.RunAnswer.{HoldsInputs, Builds, BuildFails, HoldsFile, CutsFile, WriteFails, PutFails, OutputFails, AtFile, AtSink, IsSame, RunFails}
+use Rattle.prucc.specs.Answers.{AskFor, IsNotBuiltFrom, events_file, WroteEvents, HasTaken, IsUntouched, Finishes, FailedFile, FailedSink, sink_name}
+use Rattle.prucc.specs.RunAnswer.{HoldsInputs, Builds, BuildFails, HoldsFile, CutsFile, WriteFails, PutFails, AtFile, AtSink, RunFails}
 use Rattle.prucc.proofs.Told.{Tells-then, Tells-weaker, same_twice}
 use Rattle.prucc.proofs.Front.{built_whole, not_built_whole}
 

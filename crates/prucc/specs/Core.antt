@@ -11,7 +11,6 @@ use Rattle.isa.specs.declared.inst.Inst.{Inst}
 use Rattle.isa.specs.declared.inst.Inst.TheVariants as instructions
 use Rattle.prucc.specs.Part.{first_byte, part_bytes, with_bytes}
 use Rattle.prucc.specs.declared.machine.Core.{Core}
-use Rattle.prucc.specs.declared.machine.Stop.{Stop}
 use Rattle.prucc.specs.declared.machine.Stop.TheVariants as stops
 use Rattle.prucc.specs.declared.machine.StepOut.{StepOut}
 

@@ -1,6 +1,5 @@
 -- The answers of the parts of a run: inner words of `top`.
-use Rattle.std.specs.Prelude.{◌≡◌, ◌⊎◌, ℕ, ◌+◌, List, ◌++◌, take, Option, Some, Result}
-use Rattle.std.specs.Global.{Vec}
+use Rattle.std.specs.Prelude.{◌≡◌, ℕ, ◌+◌, List, take, Option, Some}
 use Rattle.std.specs.String.{string_bytes}
 use Rattle.fileset.specs.Told.{Held, content, Tells, IsSameFiles, IsSameButFor, IsCutShort, AppendsFront}
 use Rattle.fileset.specs.Faults.{Rose}
@@ -8,7 +7,7 @@ use Rattle.prucc.specs.declared.status.Status.{Status}
 use Rattle.prucc.specs.declared.status.Status.TheVariants.{Done, Words, ReadFault, WriteFault, NoMemory, NotBuilt}
 use Rattle.prucc.specs.declared.top.Inputs.{Inputs}
 use Rattle.prucc.specs.declared.top.Output.{Output}
-use Rattle.prucc.specs.Form.{Writes, DepartsAt}
+use Rattle.prucc.specs.Form.{DepartsAt}
 use Rattle.prucc.specs.Summary.{summary_text}
 use Rattle.prucc.specs.Request.{Asked, Asks, events_name}
 use Rattle.prucc.specs.Answers.{AskFor, IsBuilt, IsBehind, NotBuiltAt, IsNotBuiltFrom, events_file, IsUntouched, FailedFile, FailedSink, IsInput, sink_name}

@@ -1,4 +1,4 @@
-use Rattle.std.proofs.Common.{◌≡◌, ℕ, List, [], ◌++◌, length, Bool, true, eqb, refl, sym, ap, subst, ◌∙◌, append_assoc, arith, rules}
+use Rattle.std.proofs.Common.{◌≡◌, ℕ, List, [], ◌++◌, length, Bool, true, eqb, sym, ap, subst, ◌∙◌, arith}
 use Rattle.std.specs.String.{string_bytes}
 use Rattle.std.proofs.lemmas.Bool.{eqb-true}
 use Rattle.std.proofs.lemmas.List.{nil_from_length}
@@ -8,7 +8,7 @@ use Rattle.prutrace.specs.Text.{events_of, events_text}
 use Rattle.prucc.specs.Form.{Writes}
 use Rattle.prucc.specs.Run.{ShowsMeaning}
 use Rattle.prucc.specs.Request.{asked}
-use Rattle.prucc.specs.Summary.{core_line, summary_line}
+use Rattle.prucc.specs.Summary.{summary_line}
 use Rattle.prucc.specs.RunAnswer.{SourceFails}
 use Rattle.prucc.proofs.TopBuild.{line_is, events_are, zero_fails, one_fails}
 use Rattle.prucc.proofs.top.build.Goals as goal
