@@ -1,0 +1,3 @@
+pub mod FieldLaws
+pub mod LoopLaws
+pub mod TableLaws
