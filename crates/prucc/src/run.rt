@@ -3,6 +3,7 @@ ghost use Rattle.std.specs.List.{AllByRecursion};
 ghost use Rattle.isa.specs.Row.{word_of};
 ghost use Rattle.prucc.specs.Form.{IsLoadable};
 ghost use Rattle.prucc.specs.Code.{code_of};
+ghost use Rattle.prucc.specs.Run.{stamped, ShowsMeaning};
 
 use crate::machine::{Core, StepOut, Stop, cost};
 use prunum::Memory;
@@ -17,8 +18,6 @@ pub struct Outcome {
     pub count: u32,
     pub stop: Stop,
 }
-
-ghost use Rattle.prucc.specs.Run.{stamped, ShowsMeaning};
 
 fn push_event(trace: &mut Vec<Stamped>, event: Option<Event>, cycle: u32) -> Result<(), Memory>
     ensures { OnOk result (trace.new.items ≡ trace.old.items ++ stamped event cycle) }
