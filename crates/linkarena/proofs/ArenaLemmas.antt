@@ -1,13 +1,13 @@
 -- What the calls of an arena do, in the words of their contracts.
-use Rattle.std.proofs.Common.{◌≡◌, ℕ, zero, suc, ◌+◌, ◌<◌, List, [], ◌∷◌, ◌++◌, length, get_or, set, Option, Some, None, is_some, IsSome, Result, Ok, Err, IfOk, count_by, refl, sym, ap, subst, ◌∙◌, inl, inr, arith, length-append}
+use Rattle.std.proofs.Common.{◌≡◌, ℕ, zero, suc, ◌+◌, ◌<◌, ◌≤◌, List, [], ◌∷◌, ◌++◌, length, get_or, set, Option, Some, None, is_some, IsSome, Result, Ok, Err, IfOk, OnOk, OnErr, is_ok, true, count_by, refl, sym, ap, subst, ◌∙◌, inl, inr, arith, length-append}
 use Rattle.std.proofs.lemmas.Bool.{cases_lt}
 use Rattle.std.proofs.lemmas.List.{get_or_past, append-nil, append_assoc}
 use Rattle.std.proofs.lemmas.List.Sums.{sum_by-append}
 use Rattle.slab.specs.Slab.{Slab, get, slab_len, ContainsKey, Updates}
 use Rattle.linkarena.specs.declared.links.Node.{Node}
 use Rattle.linkarena.specs.declared.links.Ends.{Ends}
-use Rattle.linkarena.specs.Lists.{list_at, first_id, last_id, Stands, IsLive, StandsOnce}
-use Rattle.linkarena.specs.Links.{Store, no_ends, next_of, prev_of, tag_of, next_at, prev_at, tag_at, joined, taken, put, HasId, Chain, Holds, CanJoin, CanTake, SameNodes, IsGap, lists_of, Apart, Distinct}
+use Rattle.linkarena.specs.Lists.{Lists, list_at, first_id, last_id, Stands, IsLive, StandsOnce}
+use Rattle.linkarena.specs.Links.{Store, no_ends, next_of, prev_of, tag_of, next_at, prev_at, tag_at, joined, taken, put, HasId, Chain, Holds, CanJoin, CanTake, SameNodes, IsGap, HasRoom, lists_of, Apart, Distinct}
 use Rattle.linkarena.proofs.ChainLemmas.{last_or, first_or, last_id-last_or, first_id-first_or, frame_next, frame_prev, apart_here}
 use Rattle.linkarena.proofs.StoreLemmas.{SameNodes-joined, slab_len-changed}
 use Rattle.linkarena.proofs.LinkLemmas.{linked_out, linked_but, has_tag, stands_within, tagged_same}
@@ -19,6 +19,15 @@ pub same_default : {X : Type 0} (xs : List X) (i : ℕ) (d e : X) → i < length
 same_default [] i d e within = absurd (omega arith)
 same_default (x ∷ xs) zero d e within = refl
 same_default (x ∷ xs) (suc i) d e within = same_default xs i d e (omega arith)
+
+-- ---- results
+pub on_err : {A E : Type 0} (P : Type 0) (r : Result A E) → P → OnErr r P
+on_err P (Ok x) p = tt
+on_err P (Err e) p = p
+
+pub of_ok : {A E : Type 0} (P : Type 0) (r : Result A E) → is_ok r ≡ true → OnOk r P → P
+of_ok P (Ok x) ok p = p
+of_ok P (Err e) ok p = absurd (cc)
 
 -- a fact of an Ok follows from another
 pub if_ok : {A E : Type 0} (P Q : A → Type 0) (r : Result A E) → ((x : A) → P x → Q x) → IfOk r P → IfOk r Q
@@ -39,7 +48,17 @@ module _ {T : Type 0} where
   pub seen : (s : Store T) (lists : List (List (ℕ × T))) → Holds s lists → Holds s (lists_of s)
   seen s lists held = subst (Holds s) (sym (lists_of-held s lists held)) held
 
+  pub same_view : (now : Lists T) (lists : List (List (ℕ × T))) (spare : ℕ) → lists ≡ now.lists → spare ≡ now.spare → ◌≡◌ {A = Lists T} (record { lists = lists; spare = spare }) now
+  same_view now lists spare l p = ap (λ (x : List (List (ℕ × T))). record { lists = x; spare = spare }) l ∙ ap (λ (x : ℕ). record { lists = now.lists; spare = x }) p
+
   -- ---- room and new lists
+  pub room_kept : (old new : Slab (Node T)) (spare spare' : ℕ) → HasRoom old spare → slab_len new ≤ slab_len old → slab_len new + spare' ≤ slab_len old + spare → old.capacity ≤ new.capacity → HasRoom new spare'
+  room_kept old new spare spare' room len sum capacity =
+      let there = room.there in
+      let counted = room.counted in
+      let few = room.few in
+      record { there = omega (arith, there, sum, capacity); counted = omega (arith, counted, len); few = omega (arith, few, sum) }
+
   pub holds_room : (s u : Store T) (lists : List (List (ℕ × T))) → u.ends ≡ s.ends → u.nodes.slots ≡ s.nodes.slots → Holds s lists → Holds u lists
   holds_room s u lists ends slots held =
       let read : (key : ℕ) → get u.nodes key ≡ get s.nodes key = λ key. ap (λ (xs : List (Option (Node T))). get_or xs key None) slots in

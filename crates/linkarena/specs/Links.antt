@@ -1,5 +1,5 @@
 -- How an arena keeps its lists. No public clause cites this module.
-use Rattle.std.specs.Prelude.{◌≡◌, ◌≢◌, ℕ, zero, suc, ◌<◌, ◌⊎◌, List, [], ◌∷◌, ◌++◌, length, map, Option, Some, None, slice_index_or, slice_set}
+use Rattle.std.specs.Prelude.{◌≡◌, ◌≢◌, ℕ, zero, suc, ◌+◌, ◌<◌, ◌≤◌, ◌⊎◌, List, [], ◌∷◌, ◌++◌, length, map, Option, Some, None, slice_index_or, slice_set}
 use Rattle.std.specs.Option.{option_map, ForSome}
 use Rattle.slab.specs.Slab.{Slab, get, slab_len, ContainsKey}
 use Rattle.linkarena.specs.Lists.{list_at, node_count, first_id, last_id}
@@ -166,3 +166,9 @@ module _ {T : Type 0} where
     pub len : slab_len new.nodes ≡ slab_len old.nodes
     pub capacity : new.nodes.capacity ≡ old.nodes.capacity
     pub ends : length new.ends ≡ length old.ends
+
+  -- The slab has the places that were promised to later pushes. Neither they nor the nodes are too many to be counted.
+  pub record HasRoom (nodes : Slab (Node T)) (spare : ℕ) : Type 0 where
+    pub there : slab_len nodes + spare ≤ nodes.capacity
+    pub counted : slab_len nodes ≤ 1048576
+    pub few : slab_len nodes + spare ≤ 2097152

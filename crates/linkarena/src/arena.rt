@@ -19,25 +19,25 @@ pub const MOST_LISTS: usize = 65_536;
 #[derive(Drop)]
 pub struct Arena<T> {
     links: Links<T>,
+    // how many pushes were promised to need no memory
+    spare: usize,
 }
 
 impl<T> Model for Arena<T> {
-    ghost use Rattle.std.specs.Prelude.{◌-◌};
     ghost use Rattle.linkarena.specs.Lists.{Lists, lists_code};
 
     ghost Value = { Lists T };
 
     ghost coded = { lists_code T.code };
 
-    ghost use Rattle.slab.specs.Slab.{slab_len};
-    ghost use Rattle.linkarena.specs.Links.{store_of, lists_of, Holds};
+    ghost use Rattle.linkarena.specs.Links.{store_of, lists_of, Holds, HasRoom};
 
     ghost view = { λ a. record {
       lists = lists_of (store_of a.links);
-      spare = a.links.nodes.capacity - slab_len a.links.nodes;
+      spare = a.spare;
     } };
 
-    ghost invariant = { λ a. Holds (store_of a.links) (lists_of (store_of a.links)) };
+    ghost invariant = { λ a. Holds (store_of a.links) (lists_of (store_of a.links)) × HasRoom a.links.nodes a.spare };
 }
 
 impl<T> Arena<T> {
@@ -53,6 +53,7 @@ impl<T> Arena<T> {
                 nodes: Slab::new(alloc),
                 ends: Vec::new(alloc),
             },
+            spare: 0,
         }
     }
 
@@ -62,8 +63,10 @@ impl<T> Arena<T> {
         ensures room { OnOk result (n ≤ self.new.spare) }
         ensures lists { self.new.lists ≡ self.old.lists }
         ensures spare { self.old.spare ≤ self.new.spare }
+        ensures err { OnErr result (self.new ≡ self.old) }
     {
         self.links.nodes.reserve(n)?;
+        self.spare = self.spare.max(n);
         Ok(())
     }
 
@@ -179,7 +182,9 @@ impl<T> Arena<T> {
         ensures spare { self.new.spare ≡ self.old.spare + 1 }
     {
         self.links.take_out(node.key);
-        self.links.nodes.remove(node.key).value
+        let value = self.links.nodes.remove(node.key).value;
+        self.spare += 1;
+        value
     }
 
     /// Makes a node the last of a list. It keeps its id.
@@ -224,6 +229,7 @@ impl<T> Arena<T> {
             value,
         });
         self.links.put_in(key, list, prev, next);
+        self.spare = self.spare.saturating_sub(1);
         Ok(NodeId { key })
     }
 }

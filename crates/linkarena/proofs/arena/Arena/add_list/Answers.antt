@@ -10,5 +10,5 @@ invariant_of-self-2 g c =
     let lists = c.args.self.now.lists in
     let s = store_of c.self.inside.links in
     let u : Store T = record { nodes = s.nodes; ends = c.push.new.self.items } in
-    let held = held_by s lists (ap (λ (m : Lists T). m.lists) c.self.view_is) c.self.invariant in
-    seen u (lists ++ [] ∷ []) (holds_list s u lists c.in_ok-push.ensures.items refl held)
+    let held = held_by s lists (ap (λ (m : Lists T). m.lists) c.self.view_is) c.self.invariant.0 in
+    (seen u (lists ++ [] ∷ []) (holds_list s u lists c.in_ok-push.ensures.items refl held), c.self.invariant.1)

@@ -9,7 +9,7 @@ index-before-requires g c =
     let T = g.row.T.Denot in
     let lists = c.args.self.now.lists in
     let s = store_of c.self.inside.links in
-    let held = held_by s lists (ap (λ (m : Lists T). m.lists) c.self.view_is) c.self.invariant in
+    let held = held_by s lists (ap (λ (m : Lists T). m.lists) c.self.view_is) c.self.invariant.0 in
     let live = subst (IsLive lists) (sym c.node.view_is) c.requires in
     let key = c.node.inside.key in
     live_has s lists key held live
@@ -19,7 +19,7 @@ insert-requires g c =
     let T = g.row.T.Denot in
     let lists = c.args.self.now.lists in
     let s = store_of c.self.inside.links in
-    let held = held_by s lists (ap (λ (m : Lists T). m.lists) c.self.view_is) c.self.invariant in
+    let held = held_by s lists (ap (λ (m : Lists T). m.lists) c.self.view_is) c.self.invariant.0 in
     let live = subst (IsLive lists) (sym c.node.view_is) c.requires in
     let key = c.node.inside.key in
     gap_behind s lists key c.index-before.result.now held c.index-before.ensures live
@@ -29,7 +29,7 @@ returns-clause-added g c =
     let T = g.row.T.Denot in
     let lists = c.args.self.now.lists in
     let s = store_of c.self.inside.links in
-    let held = held_by s lists (ap (λ (m : Lists T). m.lists) c.self.view_is) c.self.invariant in
+    let held = held_by s lists (ap (λ (m : Lists T). m.lists) c.self.view_is) c.self.invariant.0 in
     let key = c.node.inside.key in
     if_ok _ _ c.insert.result (λ new added list front here back stands.
     put_behind s lists c.insert.new.self.lists key new c.index-before.result.now c.args.value held c.index-before.ensures added list front here back (subst (λ (k : ℕ). Stands lists list front k here back) (sym c.node.view_is) stands)
