@@ -2,8 +2,10 @@
 #![tactic(auto)]
 
 mod cause;
+mod ctype;
 mod fault;
 mod keyword;
+mod operator;
 mod punctuator;
 mod span;
 mod text;
@@ -11,6 +13,8 @@ mod token;
 
 pub use cause::Cause;
 pub use fault::SourceFault;
+pub use ctype::{Base, CType, IntegerWords, Length, Pointer, Pointers, Sign, StandardInteger, TypeName};
+pub use operator::{BinaryOperator, PostfixOperator, PrefixOperator};
 pub use keyword::{KEYWORDS, Keyword};
 pub use punctuator::{PUNCTUATORS, Punctuator};
 pub use span::Span;

@@ -1,0 +1,5 @@
+pub mod Grammar
+pub mod Kind
+pub mod Rules
+pub mod Terminal
+pub mod Text
