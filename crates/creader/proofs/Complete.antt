@@ -1,1 +1,6 @@
 pub mod Reading
+pub mod Heads
+pub mod KnownReads
+pub mod Expressions
+pub mod Kinds
+pub mod Steps
