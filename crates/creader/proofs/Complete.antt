@@ -4,3 +4,5 @@ pub mod KnownReads
 pub mod Expressions
 pub mod Kinds
 pub mod Steps
+pub mod Classes
+pub mod Firsts
