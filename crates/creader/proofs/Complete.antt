@@ -5,4 +5,6 @@ pub mod Expressions
 pub mod Kinds
 pub mod Steps
 pub mod Classes
+pub mod Productions
 pub mod Firsts
+pub mod Sequence
