@@ -8,3 +8,5 @@ pub mod Classes
 pub mod Productions
 pub mod Firsts
 pub mod Sequence
+pub mod Plain
+pub mod Rule

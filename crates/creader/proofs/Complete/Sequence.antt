@@ -65,7 +65,7 @@ fits (part c ∷ pieces) after = (has_reader c && ((is_statement c && before_end
 abbrev pub Ends : List Piece → Forest → List Token → Type 0
 Ends pieces f tokens = ends_open pieces ≡ true → Begins (λ kind. not (last_dangles f) || allows (follow class.statement) kind) tokens
 
-statement-follow : (c : Class) → is_statement c ≡ true → follow c ≡ follow class.statement
+pub statement-follow : (c : Class) → is_statement c ≡ true → follow c ≡ follow class.statement
 unfolding is_statement follow
 statement-follow class.statement h = refl
 statement-follow class.optional_else h = refl
