@@ -10,3 +10,4 @@ pub mod Firsts
 pub mod Sequence
 pub mod Plain
 pub mod Rule
+pub mod Unit

@@ -37,6 +37,12 @@ after_of p kind = (is_statement (home p) && not (is_if_without_else p)) || allow
 unfoldable pub ready : Production → Bool
 ready p = fits (template p) (after_of p) && (not (ends_open (template p)) || (ends_with_statement p && is_statement (home p)))
 
+-- the same, to be computed
+unfoldable pub ready_check : Production → Bool
+unfolding ready after_of kinds each every_kind fits before_end ends_open may_begin firsts nullable template home reader level_reader follow allows
+    extenders operators_from is_statement has_reader any_accepts accepts keyword_number punctuator_number
+ready_check p = ready p
+
 node-after : (p : Production) (f : Forest) (kind : Kind) → may_follow (home p) (node p f) kind ≡ true → after_of p kind ≡ true
 unfolding after_of dangles
 node-after p f kind h = go (is_statement (home p)) (is_if_without_else p) _ (allows (follow (home p)) kind) h
@@ -147,9 +153,7 @@ unfoldable plain_holds : Production → Bool
 plain_holds p = if is_plain p then ready p && agrees (plain_part p) (template p) (after_of p) (plain_index p) else true
 
 plain-holds : (p : Production) → plain_holds p ≡ true
-unfolding plain_holds is_plain ready agrees plain_part only_part plain_index first_kind after_of chosen rules any_accepts accepts keyword_number
-    punctuator_number kinds each every_kind fits before_end ends_open may_begin firsts nullable template home reader level_reader follow allows extenders
-    operators_from is_statement has_reader
+unfolding plain_holds is_plain ready_check agrees plain_part only_part plain_index first_kind chosen rules
 plain-holds make.Identifier = refl
 plain-holds _ = refl
 

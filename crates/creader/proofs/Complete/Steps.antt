@@ -38,6 +38,14 @@ after-step {a} {b} {c} e p differ = go (first p)
     go (stayed same) = absurd (differ same)
     go (went {b = b'} e' q) = let same : b' ≡ b = cc in rw same at q
 
+-- a state without a step reaches no other
+pub stuck : {a c : State} → step a.symbols a.values a.tokens ≡ None → Reaches a c → (a ≡ c → ⊥) → ⊥
+stuck {a} {c} e p differ = go (first p)
+  where
+    go : First a c → ⊥
+    go (stayed same) = differ same
+    go (went e' q) = cc
+
 -- the symbols shrink on the way to what is left of them
 pub longer : (s : Symbol) (front symbols : List Symbol) {values others : List Written} {tokens left : List Token}
     → at (s ∷ front ++ symbols) values tokens ≡ at symbols others left → ⊥
