@@ -179,3 +179,75 @@ pub external-reads : (f : Forest) → Match (template make.External) f → AllKn
 unfolding ready_check template home reader readers
 external-reads f m known = reads-from class.unit (node make.External f) (λ symbols values tokens b.
     unit-join symbols values (node make.External f ∷ values) _ tokens (expanded make.External f refl m known symbols values tokens b))
+
+members : List Symbol
+members = symbol.Read part.StructMember ∷ symbol.Read part.MoreMembers ∷ symbol.Take (sign punctuator.RightBrace) ∷ symbol.Take (sign punctuator.Semicolon)
+    ∷ symbol.Reduce make.StructUnit ∷ []
+
+tag-body : List Symbol
+tag-body = symbol.Take (sign punctuator.LeftBrace) ∷ members
+
+tag-name : List Symbol
+tag-name = symbol.Reduce make.Identifier ∷ tag-body
+
+structure : List Symbol
+structure = symbol.Take terminal.Name ∷ tag-name
+
+-- a structure
+structure-join : (symbols : List Symbol) (values others : List Written) (tokens left : List Token)
+    → Reaches (at (symbol.Take (word keyword.Struct) ∷ structure ++ symbols) values tokens) (at symbols others left)
+    → Reaches (at (symbol.Read part.Unit ∷ symbols) values tokens) (at symbols others left)
+unfolding structure tag-name tag-body members hungry
+structure-join symbols values others [] left r = absurd (no-tokens (symbol.Take (word keyword.Struct) ∷ structure) symbols values others left refl r)
+structure-join symbols values others (x ∷ []) left r =
+    absurd (no-tokens structure symbols (leaf x ∷ values) others left refl
+      (back-take-token structure symbols values others left (word keyword.Struct) x [] r))
+structure-join symbols values others (x ∷ y ∷ []) left r =
+    absurd (no-tokens tag-name symbols (leaf y ∷ leaf x ∷ values) others left refl
+      (back-take-token tag-name symbols (leaf x ∷ values) others left terminal.Name y []
+        (back-take-token structure symbols values others left (word keyword.Struct) x (y ∷ []) r)))
+structure-join symbols values others (x ∷ y ∷ z ∷ tokens) left r =
+    let s = back-accepts structure symbols values others left (word keyword.Struct) x (y ∷ z ∷ tokens) r in
+    let r1 = back-take-token structure symbols values others left (word keyword.Struct) x (y ∷ z ∷ tokens) r in
+    let n = back-accepts tag-name symbols (leaf x ∷ values) others left terminal.Name y (z ∷ tokens) r1 in
+    let r2 = back-take-token tag-name symbols (leaf x ∷ values) others left terminal.Name y (z ∷ tokens) r1 in
+    let r3 = back-reduce tag-body symbols (leaf y ∷ leaf x ∷ values) others left make.Identifier (z ∷ tokens) r2 in
+    let named = reduce make.Identifier (leaf y ∷ leaf x ∷ values) in
+    let b = back-accepts members symbols named others left (sign punctuator.LeftBrace) z tokens r3 in
+    let r4 = back-take-token members symbols named others left (sign punctuator.LeftBrace) z tokens r3 in
+    join (part-take part.Unit is_struct _ symbols values x (y ∷ z ∷ tokens) unit-struct s)
+    (join (take-step terminal.Name (symbol.Reduce make.Identifier ∷ symbol.Read part.AfterTag ∷ symbols) (leaf x ∷ values) y (z ∷ tokens) n)
+    (join (reduce-step make.Identifier (symbol.Read part.AfterTag ∷ symbols) (leaf y ∷ leaf x ∷ values) (z ∷ tokens))
+    (join (part-take part.AfterTag is_brace _ symbols named z tokens tag-brace b) r4)))
+
+pub struct-unit-reads : (f : Forest) → Match (template make.StructUnit) f → AllKnown f → Reads class.unit (node make.StructUnit f)
+unfolding ready_check template home reader readers structure tag-name tag-body members
+struct-unit-reads f m known = reads-from class.unit (node make.StructUnit f) (λ symbols values tokens b.
+    structure-join symbols values (node make.StructUnit f ∷ values) _ tokens (expanded make.StructUnit f refl m known symbols values tokens b))
+
+register-body : List Symbol
+register-body = symbol.Read part.RegisterType ∷ symbol.Take terminal.RegisterName ∷ symbol.Take (sign punctuator.Semicolon) ∷ symbol.Reduce make.RegisterUnit ∷ []
+
+-- a register
+register-join : (symbols : List Symbol) (values others : List Written) (tokens left : List Token)
+    → Reaches (at (symbol.Take (word keyword.Volatile) ∷ symbol.Take (word keyword.Register) ∷ register-body ++ symbols) values tokens) (at symbols others left)
+    → Reaches (at (symbol.Read part.Unit ∷ symbols) values tokens) (at symbols others left)
+unfolding register-body hungry
+register-join symbols values others [] left r =
+    absurd (no-tokens (symbol.Take (word keyword.Volatile) ∷ symbol.Take (word keyword.Register) ∷ register-body) symbols values others left refl r)
+register-join symbols values others (x ∷ []) left r =
+    absurd (no-tokens (symbol.Take (word keyword.Register) ∷ register-body) symbols (leaf x ∷ values) others left refl
+      (back-take-token (symbol.Take (word keyword.Register) ∷ register-body) symbols values others left (word keyword.Volatile) x [] r))
+register-join symbols values others (x ∷ y ∷ tokens) left r =
+    let front = symbol.Take (word keyword.Register) ∷ register-body in
+    let v = back-accepts front symbols values others left (word keyword.Volatile) x (y ∷ tokens) r in
+    let r1 = back-take-token front symbols values others left (word keyword.Volatile) x (y ∷ tokens) r in
+    let g = back-accepts register-body symbols (leaf x ∷ values) others left (word keyword.Register) y tokens r1 in
+    let r2 = back-take-token register-body symbols (leaf x ∷ values) others left (word keyword.Register) y tokens r1 in
+    join (part-take part.Unit is_volatile _ symbols values x (y ∷ tokens) unit-volatile v)
+    (join (part-take part.AfterVolatile is_register _ symbols (leaf x ∷ values) y tokens volatile-register g) r2)
+
+pub register-unit-reads : (f : Forest) → Match (template make.RegisterUnit) f → AllKnown f → Reads class.unit (node make.RegisterUnit f)
+unfolding ready_check template home reader readers register-body
+register-unit-reads f m known = reads-from class.unit (node make.RegisterUnit f) (λ symbols values tokens b.
+    register-join symbols values (node make.RegisterUnit f ∷ values) _ tokens (expanded make.RegisterUnit f refl m known symbols values tokens b))
