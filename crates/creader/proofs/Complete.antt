@@ -1,12 +1,12 @@
 pub mod Reading
-pub mod Heads
-pub mod KnownReads
-pub mod Expressions
 pub mod Kinds
 pub mod Steps
 pub mod Classes
 pub mod Productions
 pub mod Firsts
+pub mod Heads
+pub mod KnownReads
+pub mod Expressions
 pub mod Sequence
 pub mod Plain
 pub mod Rule

@@ -1,4 +1,13 @@
 -- Each expression is read, when its parts are.
+pub mod Tables
+pub mod Symbols
+pub mod Stays
+pub mod Tails
+pub mod Grows
+pub mod Growing
+pub mod Entering
+pub mod Beginning
+pub mod Names
 use Rattle.std.specs.Prelude.{◌≡◌, true}
 use Rattle.cgrammar.specs.declared.production.Production.{Production}
 use Rattle.cgrammar.specs.Grammar.{template}

@@ -2,24 +2,23 @@
 -- the reader goes on to a longer expression or drops them: so an operator behind it is read by what is left.
 use Rattle.std.specs.Prelude.{◌≡◌, ℕ, ◌+◌, Bool, true, false, not, ◌||◌, ◌&&◌, nat_le, nat_eq, List, [], ◌∷◌, ◌++◌, map, filter, Option, Some, None, if◌then◌else◌}
 use Rattle.csyn.specs.declared.token.Token.{Token}
-use Rattle.csyn.specs.declared.keyword.Keyword.TheVariants as keyword
-use Rattle.csyn.specs.declared.punctuator.Punctuator.{Punctuator}
 use Rattle.csyn.specs.declared.punctuator.Punctuator.TheVariants as punctuator
 use Rattle.cgrammar.specs.declared.kind.Kind.{Kind}
 use Rattle.cgrammar.specs.declared.production.Production.{Production}
 use Rattle.cgrammar.specs.declared.production.Production.TheVariants as make
 use Rattle.cgrammar.specs.declared.production.Level.TheVariants as chain
 use Rattle.cgrammar.specs.declared.terminal.Terminal.{Terminal}
-use Rattle.cgrammar.specs.declared.terminal.Terminal.TheVariants as terminal
 use Rattle.cgrammar.specs.declared.part.Part.TheVariants as part
 use Rattle.cgrammar.specs.declared.part.Symbol.{Symbol}
 use Rattle.cgrammar.specs.declared.part.Symbol.TheVariants as symbol
 use Rattle.cgrammar.specs.Kind.{kind_of}
+use Rattle.cgrammar.specs.Terminal.{accepts}
 use Rattle.cgrammar.specs.Rules.{Rule, rules, choose, any_accepts}
 use Rattle.cgrammar.specs.Grammar as class
 use Rattle.cgrammar.specs.Grammar.{Class, under, home, operator_level}
 use Rattle.cgrammar.specs.Text.{Written, leaf, node, Forest, none, more, spell}
 use Rattle.creader.specs.Machine.{at, Reaches}
+use Rattle.creader.proofs.Complete.Firsts.{Begins, firsts, sign}
 use Rattle.creader.proofs.Complete.Reading.{Reads, level_reader, has_reader, extenders}
 
 -- the level of an expression's class
@@ -49,11 +48,11 @@ unfoldable pub is_name_node : Written → Bool
 is_name_node (leaf _) = false
 is_name_node (node p _) = is_bare_name p
 
--- What goes on with an expression, by number: 3 to 12 an operator of that level, 2 a question mark, 1 an assignment, 0 a comma, 13 what may
--- stand behind a name, 14 what may stand behind another expression of level 15.
+-- What goes on with an expression, by number: 3 to 12 an operator of that level, 2 a question mark, 1 an assignment, 0 a comma, 14 what may
+-- stand behind a name, 15 what may stand behind another expression of level 15.
 unfoldable pub tail_symbol : ℕ → Symbol
 tail_symbol n = if nat_eq n 0 then symbol.Read part.CommaTail else (if nat_eq n 1 then symbol.Read part.AssignmentTail
-    else (if nat_eq n 2 then symbol.Read part.ConditionalTail else (if nat_eq n 13 then symbol.Read part.NameTail
+    else (if nat_eq n 2 then symbol.Read part.ConditionalTail else (if nat_eq n 14 then symbol.Read part.NameTail
     else (if nat_eq n 3 then symbol.Read (part.ChainTail chain.Or) else (if nat_eq n 4 then symbol.Read (part.ChainTail chain.And)
     else (if nat_eq n 5 then symbol.Read (part.ChainTail chain.BitOr) else (if nat_eq n 6 then symbol.Read (part.ChainTail chain.BitXor)
     else (if nat_eq n 7 then symbol.Read (part.ChainTail chain.BitAnd) else (if nat_eq n 8 then symbol.Read (part.ChainTail chain.Equality)
@@ -67,7 +66,7 @@ chain_numbers low high = filter (λ l. nat_le low l && nat_le l high) (12 ∷ 11
 
 -- behind an expression of level 15
 unfoldable pub postfix_numbers : ℕ → Bool → List ℕ
-postfix_numbers m name = if nat_eq m 15 then (if name then 13 ∷ [] else 14 ∷ []) else []
+postfix_numbers m name = if nat_eq m 15 then (if name then 14 ∷ [] else 15 ∷ []) else []
 
 -- behind an expression of level m, where one of level n is wanted
 unfoldable pub after_numbers : ℕ → ℕ → List ℕ
@@ -82,12 +81,9 @@ left_numbers n m name = postfix_numbers m name ++ after_numbers n m
 unfoldable pub left : ℕ → Written → List Symbol
 left n w = map tail_symbol (left_numbers n (levels_of w) (is_name_node w))
 
--- the same without those of level n
+-- those of them that are for expressions of level 15
 unfoldable pub tail_of : Written → List Symbol
 tail_of w = map tail_symbol (postfix_numbers (levels_of w) (is_name_node w))
-
-abbrev pub sign : Punctuator → Terminal
-sign mark = terminal.Punctuator mark
 
 -- the tokens that would go on with the last part of an expression
 unfoldable pub barred : Production → List Terminal
@@ -114,13 +110,7 @@ Ends w kind = not (any_accepts (barred_of w) kind) ≡ true
 
 -- what an expression begins with
 unfoldable pub starts_expression : Kind → Bool
-starts_expression = any_accepts (terminal.Name ∷ terminal.Number ∷ terminal.Character ∷ sign punctuator.LeftParenthesis ∷ sign punctuator.Increment
-    ∷ sign punctuator.Decrement ∷ terminal.Prefix ∷ terminal.Keyword keyword.Sizeof ∷ [])
-
--- the first token, and there is one, passes a test
-unfoldable pub begins : (Kind → Bool) → List Token → Bool
-begins test [] = false
-begins test (token ∷ _) = test (kind_of token)
+starts_expression kind = any_accepts (firsts (class.level 0)) kind
 
 unfoldable pub symbols_of : Option Rule → List Symbol
 symbols_of None = []
@@ -135,14 +125,13 @@ pub record Behind (w : Written) : Type 0 where
   pub first : Token
   pub rest : List Token
   pub spelled : spell w ≡ first ∷ rest
-  pub inside : any_accepts (sign punctuator.LeftParenthesis ∷ []) (kind_of first) ≡ true → begins starts_expression rest ≡ true
+  pub inside : accepts (sign punctuator.LeftParenthesis) (kind_of first) ≡ true → (next : Token) (tokens : List Token)
+      → Begins starts_expression (rest ++ next ∷ tokens)
   pub reads : (symbols : List Symbol) (values : List Written) (next : Token) (tokens : List Token) → Ends w (kind_of next)
       → Reaches (at (inner (kind_of first) ++ symbols) (leaf first ∷ values) (rest ++ next ∷ tokens)) (at (tail_of w ++ symbols) (w ∷ values) (next ∷ tokens))
 
--- What is known of an expression: what it begins with, and that it is read where one of its level or a looser one is wanted, with what
--- is left then.
+-- What is known of an expression: that it is read where one of its level or a looser one is wanted, with what is left then.
 pub record Heads (w : Written) : Type 0 where
-  pub starts : begins starts_expression (spell w) ≡ true
   pub behind : nat_le 14 (levels_of w) ≡ true → Behind w
   pub heads : (n : ℕ) → nat_le n (levels_of w) ≡ true → nat_le n 14 ≡ true
       → (symbols : List Symbol) (values : List Written) (next : Token) (tokens : List Token) → Ends w (kind_of next)

@@ -1,0 +1,174 @@
+-- Lists of symbols are compared by computing. Only the symbols by which expressions are read are told apart.
+use Rattle.std.proofs.Common.{◌≡◌, ℕ, ◌+◌, Bool, true, false, ◌&&◌, nat_eq, nat_le, List, [], ◌∷◌, ◌++◌, map, get_or, refl, sym, ◌∙◌, ap, ap₂, true≢false}
+use Rattle.std.proofs.lemmas.Bool.{and_parts, eqb-true}
+use Rattle.csyn.specs.declared.punctuator.Punctuator.TheVariants as punctuator
+use Rattle.csyn.specs.declared.operator.BinaryOperator.TheVariants as operator
+use Rattle.cgrammar.specs.declared.production.Production.TheVariants as make
+use Rattle.cgrammar.specs.declared.production.Level.TheVariants as chain
+use Rattle.cgrammar.specs.declared.terminal.Terminal.TheVariants as terminal
+use Rattle.cgrammar.specs.declared.part.Part.TheVariants as part
+use Rattle.cgrammar.specs.declared.part.Symbol.{Symbol}
+use Rattle.cgrammar.specs.declared.part.Symbol.TheVariants as symbol
+use Rattle.creader.proofs.Complete.Expressions.Tables.{productions, production_number, operators, operator_number}
+
+unfoldable pub known_symbols : List Symbol
+known_symbols =
+    (symbol.Take (terminal.Punctuator punctuator.RightParenthesis)) ∷
+    (symbol.Take (terminal.Punctuator punctuator.RightBracket)) ∷
+    (symbol.Take (terminal.Punctuator punctuator.Colon)) ∷ (symbol.Take terminal.Name) ∷
+    (symbol.Read part.Expression) ∷ (symbol.Read part.Assignment) ∷ (symbol.Read part.Conditional) ∷
+    (symbol.Read part.Operand) ∷ (symbol.Read part.Unary) ∷ (symbol.Read part.TypeName) ∷
+    (symbol.Read part.Arguments) ∷ (symbol.Read part.AfterName) ∷ (symbol.Read part.SizeofOperand) ∷
+    (symbol.Read part.SizeofParenthesis) ∷ (symbol.Read part.AssignmentParenthesis) ∷
+    (symbol.Read part.OperandParenthesis) ∷ (symbol.Read part.CommaTail) ∷ (symbol.Read part.AssignmentTail) ∷
+    (symbol.Read part.ConditionalTail) ∷ (symbol.Read part.NameTail) ∷ (symbol.Read part.PostfixTail) ∷
+    (symbol.Read (part.Chain chain.Or)) ∷ (symbol.Read (part.Chain chain.And)) ∷
+    (symbol.Read (part.Chain chain.BitOr)) ∷ (symbol.Read (part.Chain chain.BitXor)) ∷
+    (symbol.Read (part.Chain chain.BitAnd)) ∷ (symbol.Read (part.Chain chain.Equality)) ∷
+    (symbol.Read (part.Chain chain.Relation)) ∷ (symbol.Read (part.Chain chain.Shift)) ∷
+    (symbol.Read (part.Chain chain.Sum)) ∷ (symbol.Read (part.Chain chain.Product)) ∷
+    (symbol.Read (part.ChainTail chain.Or)) ∷ (symbol.Read (part.ChainTail chain.And)) ∷
+    (symbol.Read (part.ChainTail chain.BitOr)) ∷ (symbol.Read (part.ChainTail chain.BitXor)) ∷
+    (symbol.Read (part.ChainTail chain.BitAnd)) ∷ (symbol.Read (part.ChainTail chain.Equality)) ∷
+    (symbol.Read (part.ChainTail chain.Relation)) ∷ (symbol.Read (part.ChainTail chain.Shift)) ∷
+    (symbol.Read (part.ChainTail chain.Sum)) ∷ (symbol.Read (part.ChainTail chain.Product)) ∷
+    (symbol.Reduce make.Identifier) ∷ map symbol.Reduce productions
+
+unfoldable pub symbol_number : Symbol → ℕ
+symbol_number (symbol.Take (terminal.Punctuator punctuator.RightParenthesis)) = 0
+symbol_number (symbol.Take (terminal.Punctuator punctuator.RightBracket)) = 1
+symbol_number (symbol.Take (terminal.Punctuator punctuator.Colon)) = 2
+symbol_number (symbol.Take terminal.Name) = 3
+symbol_number (symbol.Read part.Expression) = 4
+symbol_number (symbol.Read part.Assignment) = 5
+symbol_number (symbol.Read part.Conditional) = 6
+symbol_number (symbol.Read part.Operand) = 7
+symbol_number (symbol.Read part.Unary) = 8
+symbol_number (symbol.Read part.TypeName) = 9
+symbol_number (symbol.Read part.Arguments) = 10
+symbol_number (symbol.Read part.AfterName) = 11
+symbol_number (symbol.Read part.SizeofOperand) = 12
+symbol_number (symbol.Read part.SizeofParenthesis) = 13
+symbol_number (symbol.Read part.AssignmentParenthesis) = 14
+symbol_number (symbol.Read part.OperandParenthesis) = 15
+symbol_number (symbol.Read part.CommaTail) = 16
+symbol_number (symbol.Read part.AssignmentTail) = 17
+symbol_number (symbol.Read part.ConditionalTail) = 18
+symbol_number (symbol.Read part.NameTail) = 19
+symbol_number (symbol.Read part.PostfixTail) = 20
+symbol_number (symbol.Read (part.Chain chain.Or)) = 21
+symbol_number (symbol.Read (part.Chain chain.And)) = 22
+symbol_number (symbol.Read (part.Chain chain.BitOr)) = 23
+symbol_number (symbol.Read (part.Chain chain.BitXor)) = 24
+symbol_number (symbol.Read (part.Chain chain.BitAnd)) = 25
+symbol_number (symbol.Read (part.Chain chain.Equality)) = 26
+symbol_number (symbol.Read (part.Chain chain.Relation)) = 27
+symbol_number (symbol.Read (part.Chain chain.Shift)) = 28
+symbol_number (symbol.Read (part.Chain chain.Sum)) = 29
+symbol_number (symbol.Read (part.Chain chain.Product)) = 30
+symbol_number (symbol.Read (part.ChainTail chain.Or)) = 31
+symbol_number (symbol.Read (part.ChainTail chain.And)) = 32
+symbol_number (symbol.Read (part.ChainTail chain.BitOr)) = 33
+symbol_number (symbol.Read (part.ChainTail chain.BitXor)) = 34
+symbol_number (symbol.Read (part.ChainTail chain.BitAnd)) = 35
+symbol_number (symbol.Read (part.ChainTail chain.Equality)) = 36
+symbol_number (symbol.Read (part.ChainTail chain.Relation)) = 37
+symbol_number (symbol.Read (part.ChainTail chain.Shift)) = 38
+symbol_number (symbol.Read (part.ChainTail chain.Sum)) = 39
+symbol_number (symbol.Read (part.ChainTail chain.Product)) = 40
+symbol_number (symbol.Reduce make.Identifier) = 41
+symbol_number (symbol.Reduce p) = 42 + production_number p
+symbol_number _ = 999
+
+symbol-at : (s : Symbol) → nat_le (symbol_number s) 98 ≡ true → get_or known_symbols (symbol_number s) (symbol.Take terminal.Any) ≡ s
+unfolding known_symbols symbol_number productions production_number operators operator_number
+symbol-at (symbol.Take (terminal.Punctuator punctuator.RightParenthesis)) h = refl
+symbol-at (symbol.Take (terminal.Punctuator punctuator.RightBracket)) h = refl
+symbol-at (symbol.Take (terminal.Punctuator punctuator.Colon)) h = refl
+symbol-at (symbol.Take terminal.Name) h = refl
+symbol-at (symbol.Read part.Expression) h = refl
+symbol-at (symbol.Read part.Assignment) h = refl
+symbol-at (symbol.Read part.Conditional) h = refl
+symbol-at (symbol.Read part.Operand) h = refl
+symbol-at (symbol.Read part.Unary) h = refl
+symbol-at (symbol.Read part.TypeName) h = refl
+symbol-at (symbol.Read part.Arguments) h = refl
+symbol-at (symbol.Read part.AfterName) h = refl
+symbol-at (symbol.Read part.SizeofOperand) h = refl
+symbol-at (symbol.Read part.SizeofParenthesis) h = refl
+symbol-at (symbol.Read part.AssignmentParenthesis) h = refl
+symbol-at (symbol.Read part.OperandParenthesis) h = refl
+symbol-at (symbol.Read part.CommaTail) h = refl
+symbol-at (symbol.Read part.AssignmentTail) h = refl
+symbol-at (symbol.Read part.ConditionalTail) h = refl
+symbol-at (symbol.Read part.NameTail) h = refl
+symbol-at (symbol.Read part.PostfixTail) h = refl
+symbol-at (symbol.Read (part.Chain chain.Or)) h = refl
+symbol-at (symbol.Read (part.Chain chain.And)) h = refl
+symbol-at (symbol.Read (part.Chain chain.BitOr)) h = refl
+symbol-at (symbol.Read (part.Chain chain.BitXor)) h = refl
+symbol-at (symbol.Read (part.Chain chain.BitAnd)) h = refl
+symbol-at (symbol.Read (part.Chain chain.Equality)) h = refl
+symbol-at (symbol.Read (part.Chain chain.Relation)) h = refl
+symbol-at (symbol.Read (part.Chain chain.Shift)) h = refl
+symbol-at (symbol.Read (part.Chain chain.Sum)) h = refl
+symbol-at (symbol.Read (part.Chain chain.Product)) h = refl
+symbol-at (symbol.Read (part.ChainTail chain.Or)) h = refl
+symbol-at (symbol.Read (part.ChainTail chain.And)) h = refl
+symbol-at (symbol.Read (part.ChainTail chain.BitOr)) h = refl
+symbol-at (symbol.Read (part.ChainTail chain.BitXor)) h = refl
+symbol-at (symbol.Read (part.ChainTail chain.BitAnd)) h = refl
+symbol-at (symbol.Read (part.ChainTail chain.Equality)) h = refl
+symbol-at (symbol.Read (part.ChainTail chain.Relation)) h = refl
+symbol-at (symbol.Read (part.ChainTail chain.Shift)) h = refl
+symbol-at (symbol.Read (part.ChainTail chain.Sum)) h = refl
+symbol-at (symbol.Read (part.ChainTail chain.Product)) h = refl
+symbol-at (symbol.Reduce make.Identifier) h = refl
+symbol-at (symbol.Reduce make.Name) h = refl
+symbol-at (symbol.Reduce make.Number) h = refl
+symbol-at (symbol.Reduce make.Character) h = refl
+symbol-at (symbol.Reduce make.Parenthesised) h = refl
+symbol-at (symbol.Reduce make.Index) h = refl
+symbol-at (symbol.Reduce make.CallFunction) h = refl
+symbol-at (symbol.Reduce make.Call) h = refl
+symbol-at (symbol.Reduce make.Member) h = refl
+symbol-at (symbol.Reduce make.Arrow) h = refl
+symbol-at (symbol.Reduce make.PostIncrement) h = refl
+symbol-at (symbol.Reduce make.PostDecrement) h = refl
+symbol-at (symbol.Reduce make.PreIncrement) h = refl
+symbol-at (symbol.Reduce make.PreDecrement) h = refl
+symbol-at (symbol.Reduce make.Prefix) h = refl
+symbol-at (symbol.Reduce make.SizeofExpression) h = refl
+symbol-at (symbol.Reduce make.SizeofType) h = refl
+symbol-at (symbol.Reduce make.Cast) h = refl
+symbol-at (symbol.Reduce make.Conditional) h = refl
+symbol-at (symbol.Reduce make.Assign) h = refl
+symbol-at (symbol.Reduce make.Comma) h = refl
+symbol-at (symbol.Reduce (make.Binary operator.Multiply)) h = refl
+symbol-at (symbol.Reduce (make.Binary _)) h = refl
+symbol-at (symbol.Reduce (make.AssignWith operator.Multiply)) h = refl
+symbol-at (symbol.Reduce (make.AssignWith _)) h = refl
+symbol-at _ h = absurd (true≢false (sym h))
+
+unfoldable pub same_symbol : Symbol → Symbol → Bool
+same_symbol a b = nat_eq (symbol_number a) (symbol_number b) && (nat_le (symbol_number a) 98 && nat_le (symbol_number b) 98)
+
+pub same_symbol-path : (a b : Symbol) → same_symbol a b ≡ true → a ≡ b
+unfolding same_symbol
+same_symbol-path a b h =
+    let one = and_parts (nat_eq (symbol_number a) (symbol_number b)) _ h in
+    let two = and_parts (nat_le (symbol_number a) 98) (nat_le (symbol_number b) 98) one.1 in
+    sym (symbol-at a two.0) ∙ (ap (λ n. get_or known_symbols n (symbol.Take terminal.Any)) (eqb-true _ _ one.0) ∙ symbol-at b two.1)
+
+unfoldable pub same : List Symbol → List Symbol → Bool
+same [] [] = true
+same (a ∷ s) (b ∷ t) = same_symbol a b && same s t
+same _ _ = false
+
+pub same-path : (s t : List Symbol) → same s t ≡ true → s ≡ t
+unfolding same
+same-path [] [] h = refl
+same-path (a ∷ s) (b ∷ t) h =
+    let both = and_parts (same_symbol a b) (same s t) h in
+    ap₂ (λ x y. x ∷ y) (same_symbol-path a b both.0) (same-path s t both.1)
+same-path _ _ h = absurd (true≢false (sym h))
