@@ -11,3 +11,6 @@ pub mod Sequence
 pub mod Plain
 pub mod Rule
 pub mod Unit
+pub mod Deep
+pub mod Words
+pub mod Pointers

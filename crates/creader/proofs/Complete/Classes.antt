@@ -1,7 +1,7 @@
 -- Classes are told apart by their numbers.
 use Rattle.std.specs.Prelude.{◌≡◌, ℕ, ◌+◌, ◌-◌, ◌≤◌, ◌⊎◌, Bool, true, false, ◌||◌, nat_eq, nat_le, List, [], ◌∷◌, Option, Some, None, if◌then◌else◌}
 use Rattle.std.proofs.Common.{refl, sym, ap, ◌∙◌, arith, inl, inr}
-use Rattle.std.proofs.lemmas.Bool.{eqb-true, le-leb, or_cases}
+use Rattle.std.proofs.lemmas.Bool.{eqb-true, eq-eqb, le-leb, or_cases, or_left}
 use Rattle.cgrammar.specs.declared.production.Words.TheVariants as every
 use Rattle.cgrammar.specs.Grammar as class
 use Rattle.cgrammar.specs.Grammar.{Class, under, is_wider, class_number, words_number}
@@ -50,3 +50,7 @@ under-ways a b h = go (or_cases (nat_eq (class_number a) (class_number b)) (is_w
     go : (nat_eq (class_number a) (class_number b) ≡ true) ⊎ (is_wider a b ≡ true) → (a ≡ b) ⊎ (is_wider a b ≡ true)
     go (inl e) = inl (same-class a b e)
     go (inr e) = inr e
+
+pub same-under : (a : Class) → under a a ≡ true
+unfolding under
+same-under a = or_left _ _ (eq-eqb (class_number a) (class_number a) refl)

@@ -30,7 +30,7 @@ sign mark = terminal.Punctuator mark
 abbrev pub word : Keyword → Terminal
 word k = terminal.Keyword k
 
-abbrev integer_words : List Terminal
+abbrev pub integer_words : List Terminal
 integer_words = terminal.Sign ∷ terminal.Length ∷ word keyword.Char ∷ word keyword.Int ∷ []
 
 abbrev expression_starts : List Terminal

@@ -13,11 +13,12 @@ use Rattle.cgrammar.specs.declared.part.Symbol.{Symbol}
 use Rattle.cgrammar.specs.declared.part.Symbol.TheVariants as symbol
 use Rattle.cgrammar.specs.Kind.{kind_of}
 use Rattle.cgrammar.specs.Terminal.{accepts, keyword_number, punctuator_number}
+use Rattle.cgrammar.specs.Grammar.{template}
 use Rattle.cgrammar.specs.Rules.{Rule, rules, words_rules, choose, any_accepts}
-use Rattle.cgrammar.specs.Text.{Written, leaf}
+use Rattle.cgrammar.specs.Text.{Written, leaf, node, Forest, Match}
 use Rattle.creader.specs.Machine.{State, at, Reaches, here, next, step, reduce}
 use Rattle.creader.proofs.Complete.Kinds.{entry, kinds, each, every_kind, at-kind}
-use Rattle.creader.proofs.Complete.Steps.{join, after-step, stuck, longer, read-step, take-step, reduce-step, chosen, choose-at}
+use Rattle.creader.proofs.Complete.Steps.{join, after-step, stuck, longer, read-step, take-step, reduce-step, chosen, choose-at, push, reduce-push}
 use Rattle.creader.proofs.Complete.Firsts.{implied, no}
 use Rattle.creader.proofs.Complete.Plain.{shape, shown}
 
@@ -67,6 +68,11 @@ part-stay p test body symbols values x tokens c t =
     let r = chosen-rule p test move.Stay body (kind_of x) c t in
     let m = r.2 in let b = r.3 in
     rw (m, b) at (read-step p r.0 symbols values x tokens r.1)
+
+-- the values of a production's parts are made one
+pub made-step : (p : Production) (f : Forest) (symbols : List Symbol) (values : List Written) (tokens : List Token) → Match (template p) f
+    → Reaches (at (symbol.Reduce p ∷ symbols) (push f values) tokens) (at symbols (node p f ∷ values) tokens)
+made-step p f symbols values tokens m = let one = reduce-step p symbols (push f values) tokens in rw (reduce-push p f values m) at one
 
 -- The same steps are taken on the way to any state that has fewer symbols.
 module _ (front symbols : List Symbol) (values others : List Written) (left : List Token) where

@@ -1,0 +1,25 @@
+-- What is known of all parts of a tree.
+use Rattle.std.specs.Prelude.{◌≡◌, Bool, true, false, not, nat_eq, List, [], ◌∷◌}
+use Rattle.std.proofs.Common.{refl, sym, ap, ◌∙◌}
+use Rattle.cgrammar.specs.declared.production.Production.{Production}
+use Rattle.cgrammar.specs.Text.{Written, leaf, node, Forest, none, more}
+use Rattle.creader.proofs.Complete.Heads.{Known, AllKnown}
+
+unfoldable mutual
+  pub Deep : Written → Type 0
+  Deep (leaf _) = Unit {0}
+  Deep (node p f) = Known (node p f) × Deeps f
+
+  pub Deeps : Forest → Type 0
+  Deeps none = Unit {0}
+  Deeps (more w f) = Deep w × Deeps f
+
+pub deep-known : (w : Written) → Deep w → Known w
+unfolding Deep Known
+deep-known (leaf _) d = tt
+deep-known (node p f) d = d.0
+
+pub deeps-known : (f : Forest) → Deeps f → AllKnown f
+unfolding Deep AllKnown
+deeps-known none d = tt
+deeps-known (more w f) d = (deep-known w d.0, deeps-known f d.1)
