@@ -23,3 +23,13 @@ pub deeps-known : (f : Forest) → Deeps f → AllKnown f
 unfolding Deep AllKnown
 deeps-known none d = tt
 deeps-known (more w f) d = (deep-known w d.0, deeps-known f d.1)
+
+-- the same of the parts alone
+unfoldable pub Below : Written → Type 0
+Below (leaf _) = Unit {0}
+Below (node p f) = Deeps f
+
+pub deep-below : (w : Written) → Deep w → Below w
+unfolding Deep Below
+deep-below (leaf _) d = tt
+deep-below (node p f) d = d.1

@@ -25,10 +25,10 @@ use Rattle.creader.proofs.Complete.KnownReads.{known-reads}
 use Rattle.creader.proofs.Complete.Kinds.{kinds, each, every_kind, at-kind}
 use Rattle.creader.proofs.Complete.Steps.{join, take-step, reduce-step, push}
 use Rattle.creader.proofs.Complete.Productions.{productions, kept, makers, In, in-makers}
-use Rattle.creader.proofs.Complete.Firsts.{sign, Begins, begins-as, implied, no}
+use Rattle.creader.proofs.Complete.Firsts.{sign, Begins, begins-as, implied, no, may_begin, forest-begins}
 use Rattle.creader.proofs.Complete.Sequence.{may_follow, reads-before, reads-from}
-use Rattle.creader.proofs.Complete.Rule.{rule_check, rule_shape, Chosen, part-take, part-stay, made-step}
-use Rattle.creader.proofs.Complete.Deep.{Deep, Deeps, deep-known}
+use Rattle.creader.proofs.Complete.Rule.{rule_check, rule_shape, Chosen, part-take, part-stay, stay-at, made-step}
+use Rattle.creader.proofs.Complete.Deep.{Deep, Deeps, deep-known, Below, deep-below}
 
 abbrev pub is_star : Kind → Bool
 is_star = accepts (sign punctuator.Star)
@@ -145,3 +145,152 @@ stars-read tail after s (node make.Star (more c (more (leaf x) none))) st m symb
 stars-read tail after s (node make.Star (more c (more (leaf x) (more d f)))) st m symbols values tokens b = absurd m.3.3
 stars-read tail after s (node make.Star (more c (more (node q g) f))) st m symbols values tokens b = absurd m.3.0
 stars-read tail after s (node p f) st m symbols values tokens b = absurd (no (stars-makers p st))
+
+-- the parts by which a star and qualifiers behind it are read
+record Marked (tail after : Part) : Type 0 where
+  starred : Chosen tail is_star move.Take (symbol.Read after ∷ [])
+  marked : Chosen after is_qualifier move.Take (symbol.Read part.Qualifiers ∷ symbol.Reduce make.QualifiedPointer ∷ symbol.Read part.PointersTail ∷ [])
+
+stars-marked : Marked part.StarsTail part.AfterStar
+unfolding rule_check rule_shape
+stars-marked = record {
+  starred = record { index = 0; checked = refl; found = refl };
+  marked = record { index = 0; checked = refl; found = refl }
+}
+
+pointers-marked : Marked part.PointersTail part.AfterNextStar
+unfolding rule_check rule_shape
+pointers-marked = record {
+  starred = record { index = 0; checked = refl; found = refl };
+  marked = record { index = 0; checked = refl; found = refl }
+}
+
+next-star : Chosen part.AfterNextStar not_qualifier move.Stay (symbol.Reduce make.NextPointer ∷ symbol.Read part.PointersTail ∷ [])
+unfolding rule_check rule_shape
+next-star = record { index = 1; checked = refl; found = refl }
+
+qualifiers-may : (d : Written) (kind : Kind) → not_qualifier kind ≡ true → may_follow class.qualifiers d kind ≡ true
+unfolding is_statement follow allows any_accepts
+qualifiers-may d kind h = go (is_qualifier kind) h
+  where
+    go : (b : Bool) → not b ≡ true → not (b || false) ≡ true
+    go true h = h
+    go false h = h
+
+-- a star and qualifiers
+marked-reads : (tail after : Part) → Marked tail after → (c : Written) (x q : Token) (d : Written)
+    → Match (template make.QualifiedPointer) (more c (more (leaf x) (more (leaf q) (more d none)))) → Deep d
+    → (symbols : List Symbol) (values : List Written) (tokens : List Token) → Begins not_qualifier tokens
+    → Reaches (at (symbol.Read tail ∷ symbols) (c ∷ values) (x ∷ q ∷ spell d ++ tokens))
+      (at (symbol.Read part.PointersTail ∷ symbols) (node make.QualifiedPointer (more c (more (leaf x) (more (leaf q) (more d none)))) ∷ values) tokens)
+unfolding template Match push has_reader reader
+marked-reads tail after s c x q d m deep symbols values tokens b =
+    let left = symbol.Reduce make.QualifiedPointer ∷ symbol.Read part.PointersTail ∷ symbols in
+    let r = known-reads d class.qualifiers (deep-known d deep) m.3.3.3.0 refl in
+    join (part-take tail is_star _ symbols (c ∷ values) x (q ∷ spell d ++ tokens) s.starred m.3.0)
+    (join (part-take after is_qualifier _ symbols (leaf x ∷ c ∷ values) q (spell d ++ tokens) s.marked m.3.3.0)
+    (join (reads-before class.qualifiers d r left (leaf q ∷ leaf x ∷ c ∷ values) tokens
+        (begins-as not_qualifier (may_follow class.qualifiers d) tokens (qualifiers-may d) b))
+    (made-step make.QualifiedPointer (more c (more (leaf x) (more (leaf q) (more d none)))) (symbol.Read part.PointersTail ∷ symbols) values tokens m)))
+
+-- a star behind qualifiers
+next-reads : (c : Written) (x : Token) → Match (template make.NextPointer) (more c (more (leaf x) none))
+    → (symbols : List Symbol) (values : List Written) (tokens : List Token) → Begins not_qualifier tokens
+    → Reaches (at (symbol.Read part.PointersTail ∷ symbols) (c ∷ values) (x ∷ tokens))
+      (at (symbol.Read part.PointersTail ∷ symbols) (node make.NextPointer (more c (more (leaf x) none)) ∷ values) tokens)
+unfolding template Match push
+next-reads c x m symbols values [] b = absurd b
+next-reads c x m symbols values (y ∷ tokens) b =
+    join (part-take part.PointersTail is_star _ symbols (c ∷ values) x (y ∷ tokens) pointers-marked.starred m.3.0)
+    (join (part-stay part.AfterNextStar not_qualifier _ symbols (leaf x ∷ c ∷ values) y tokens next-star b)
+    (made-step make.NextPointer (more c (more (leaf x) none)) (symbol.Read part.PointersTail ∷ symbols) values (y ∷ tokens) m))
+
+abbrev Qualified : Written → Type 0
+Qualified w = (symbols : List Symbol) (values : List Written) (tokens : List Token) → Begins not_qualifier tokens
+    → Reaches (at (symbol.Reduce make.NoPointers ∷ symbol.Read part.StarsTail ∷ symbols) values (spell w ++ tokens)) (at (symbol.Read part.PointersTail ∷ symbols) (w ∷ values) tokens)
+
+-- pointers of either class, and a star and qualifiers
+qualifiers-read : (c : Written) (x q : Token) (d : Written) → Match (template make.QualifiedPointer) (more c (more (leaf x) (more (leaf q) (more d none))))
+    → (Stands (class.part class.qualified) c → Qualified c) → Deep d → Qualified (node make.QualifiedPointer (more c (more (leaf x) (more (leaf q) (more d none)))))
+unfolding template Match
+qualifiers-read (leaf t) x q d m ih deep symbols values tokens b = absurd m.0
+qualifiers-read (node p g) x q d m ih deep symbols values tokens b = simp append_assoc (go (pointers-ways p m.0))
+  where
+    c : Written
+    c = node p g
+    behind : Begins not_qualifier (x ∷ q ∷ spell d ++ tokens)
+    behind = star-no-qualifier (kind_of x) m.3.0
+    Goal : Type 0
+    Goal = Reaches (at (symbol.Reduce make.NoPointers ∷ symbol.Read part.StarsTail ∷ symbols) values (spell c ++ (x ∷ q ∷ spell d ++ tokens)))
+        (at (symbol.Read part.PointersTail ∷ symbols) (node make.QualifiedPointer (more c (more (leaf x) (more (leaf q) (more d none)))) ∷ values) tokens)
+    go : (under (home p) class.stars ≡ true) ⊎ (under (home p) class.qualified ≡ true) → Goal
+    go (inl e) =
+        join (stars-read part.StarsTail part.AfterStar stars-tail c e m.1 symbols values (x ∷ q ∷ spell d ++ tokens) behind)
+        (marked-reads part.StarsTail part.AfterStar stars-marked c x q d m deep symbols values tokens b)
+    go (inr e) =
+        join (ih e symbols values (x ∷ q ∷ spell d ++ tokens) behind)
+        (marked-reads part.PointersTail part.AfterNextStar pointers-marked c x q d m deep symbols values tokens b)
+
+-- Pointers of which some are qualified.
+qualified-read : (w : Written) → Stands (class.part class.qualified) w → IsProper w → Below w → Qualified w
+unfolding IsProper template makes_qualified Deep Below
+qualified-read (leaf t) st m deep symbols values tokens b = absurd st
+qualified-read (node make.QualifiedPointer none) st m deep symbols values tokens b = absurd m
+qualified-read (node make.QualifiedPointer (more c none)) st m deep symbols values tokens b = absurd m.3
+qualified-read (node make.QualifiedPointer (more c (more x none))) st m deep symbols values tokens b = absurd m.3.3
+qualified-read (node make.QualifiedPointer (more c (more x (more q none)))) st m deep symbols values tokens b = absurd m.3.3.3
+qualified-read (node make.QualifiedPointer (more c (more (leaf x) (more (leaf q) (more d none))))) st m deep symbols values tokens b =
+    qualifiers-read c x q d m (λ st'. qualified-read c st' m.1 (deep-below c deep.0)) deep.1.1.1.0 symbols values tokens b
+qualified-read (node make.QualifiedPointer (more c (more (leaf x) (more (leaf q) (more d (more e f)))))) st m deep symbols values tokens b = absurd m.3.3.3.3
+qualified-read (node make.QualifiedPointer (more c (more (leaf x) (more (node p g) (more d f))))) st m deep symbols values tokens b = absurd m.3.3.0
+qualified-read (node make.QualifiedPointer (more c (more (node p g) (more q (more d f))))) st m deep symbols values tokens b = absurd m.3.0
+qualified-read (node make.NextPointer none) st m deep symbols values tokens b = absurd m
+qualified-read (node make.NextPointer (more c none)) st m deep symbols values tokens b = absurd m.3
+qualified-read (node make.NextPointer (more c (more (leaf x) none))) st m deep symbols values tokens b =
+    let whole = qualified-read c m.0 m.1 (deep-below c deep.0) symbols values (x ∷ tokens) (star-no-qualifier (kind_of x) m.3.0) in
+    simp append_assoc (join whole (next-reads c x m symbols values tokens b))
+qualified-read (node make.NextPointer (more c (more (leaf x) (more d f)))) st m deep symbols values tokens b = absurd m.3.3
+qualified-read (node make.NextPointer (more c (more (node q g) f))) st m deep symbols values tokens b = absurd m.3.0
+qualified-read (node p f) st m deep symbols values tokens b = absurd (no (qualified-makers p st))
+
+pointers-first : Chosen part.Pointers (λ _. true) move.Stay (symbol.Reduce make.NoPointers ∷ symbol.Read part.StarsTail ∷ [])
+unfolding rule_check rule_shape
+pointers-first = record { index = 0; checked = refl; found = refl }
+
+abbrev not_star : Kind → Bool
+not_star kind = not (is_star kind)
+
+stars-end : Chosen part.StarsTail not_star move.Stay []
+unfolding rule_check rule_shape
+stars-end = record { index = 1; checked = refl; found = refl }
+
+pointers-end : Chosen part.PointersTail not_star move.Stay []
+unfolding rule_check rule_shape
+pointers-end = record { index = 1; checked = refl; found = refl }
+
+pointers-may : (w : Written) (kind : Kind) → may_follow class.pointers w kind ≡ true → (not_qualifier kind ≡ true) × (not_star kind ≡ true)
+unfolding is_statement follow allows any_accepts
+pointers-may w kind h = go (is_star kind) (is_qualifier kind) h
+  where
+    go : (s q : Bool) → not (s || (q || false)) ≡ true → (not q ≡ true) × (not s ≡ true)
+    go true q h = absurd (no h)
+    go false true h = absurd (no h)
+    go false false h = (refl, refl)
+
+-- pointers are read before what is neither a star nor a qualifier
+pub pointers-read : (p : Production) (f : Forest) → under (home p) class.pointers ≡ true → Match (template p) f → Deeps f → Reads class.pointers (node p f)
+unfolding reader IsProper Below
+pointers-read p f u m deep = reads-from class.pointers (node p f) (λ symbols values tokens b.
+    join (stay-at part.Pointers (λ _. true) _ symbols values (spell (node p f) ++ tokens) pointers-first
+      (begins-as (may_begin (template p) (may_follow class.pointers (node p f))) (λ _. true) (spell (node p f) ++ tokens) (λ _ _. refl) (forest-begins f (template p) m (may_follow class.pointers (node p f)) tokens b)))
+    (go symbols values tokens b (pointers-ways p u)))
+  where
+    go : (symbols : List Symbol) (values : List Written) (tokens : List Token) → Begins (may_follow class.pointers (node p f)) tokens
+        → (under (home p) class.stars ≡ true) ⊎ (under (home p) class.qualified ≡ true)
+        → Reaches (at (symbol.Reduce make.NoPointers ∷ symbol.Read part.StarsTail ∷ symbols) values (spells f ++ tokens)) (at symbols (node p f ∷ values) tokens)
+    go symbols values tokens b (inl e) =
+        join (stars-read part.StarsTail part.AfterStar stars-tail (node p f) e m symbols values tokens (begins-as (may_follow class.pointers (node p f)) not_qualifier tokens (λ kind h. (pointers-may (node p f) kind h).0) b))
+        (stay-at part.StarsTail not_star [] symbols (node p f ∷ values) tokens stars-end (begins-as (may_follow class.pointers (node p f)) not_star tokens (λ kind h. (pointers-may (node p f) kind h).1) b))
+    go symbols values tokens b (inr e) =
+        join (qualified-read (node p f) e m deep symbols values tokens (begins-as (may_follow class.pointers (node p f)) not_qualifier tokens (λ kind h. (pointers-may (node p f) kind h).0) b))
+        (stay-at part.PointersTail not_star [] symbols (node p f ∷ values) tokens pointers-end (begins-as (may_follow class.pointers (node p f)) not_star tokens (λ kind h. (pointers-may (node p f) kind h).1) b))

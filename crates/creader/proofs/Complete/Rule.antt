@@ -19,7 +19,7 @@ use Rattle.cgrammar.specs.Text.{Written, leaf, node, Forest, Match}
 use Rattle.creader.specs.Machine.{State, at, Reaches, here, next, step, reduce}
 use Rattle.creader.proofs.Complete.Kinds.{entry, kinds, each, every_kind, at-kind}
 use Rattle.creader.proofs.Complete.Steps.{join, after-step, stuck, longer, read-step, take-step, reduce-step, chosen, choose-at, push, reduce-push}
-use Rattle.creader.proofs.Complete.Firsts.{implied, no}
+use Rattle.creader.proofs.Complete.Firsts.{Begins, implied, no}
 use Rattle.creader.proofs.Complete.Plain.{shape, shown}
 
 -- the rule with this index is chosen wherever the test is true
@@ -68,6 +68,13 @@ part-stay p test body symbols values x tokens c t =
     let r = chosen-rule p test move.Stay body (kind_of x) c t in
     let m = r.2 in let b = r.3 in
     rw (m, b) at (read-step p r.0 symbols values x tokens r.1)
+
+-- the same for any tokens that begin so
+pub stay-at : (p : Part) (test : Kind → Bool) (body symbols : List Symbol) (values : List Written) (tokens : List Token)
+    → Chosen p test move.Stay body → Begins test tokens
+    → Reaches (at (symbol.Read p ∷ symbols) values tokens) (at (body ++ symbols) values tokens)
+stay-at p test body symbols values [] c b = absurd b
+stay-at p test body symbols values (x ∷ tokens) c b = part-stay p test body symbols values x tokens c b
 
 -- the values of a production's parts are made one
 pub made-step : (p : Production) (f : Forest) (symbols : List Symbol) (values : List Written) (tokens : List Token) → Match (template p) f
