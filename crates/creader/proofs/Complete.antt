@@ -14,3 +14,5 @@ pub mod Unit
 pub mod Deep
 pub mod Words
 pub mod Pointers
+pub mod Parameters
+pub mod Parameter

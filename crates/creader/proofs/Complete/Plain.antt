@@ -43,7 +43,7 @@ unfolding ready after_of kinds each every_kind fits before_end ends_open may_beg
     extenders operators_from is_statement has_reader any_accepts accepts keyword_number punctuator_number
 ready_check p = ready p
 
-node-after : (p : Production) (f : Forest) (kind : Kind) → may_follow (home p) (node p f) kind ≡ true → after_of p kind ≡ true
+pub node-after : (p : Production) (f : Forest) (kind : Kind) → may_follow (home p) (node p f) kind ≡ true → after_of p kind ≡ true
 unfolding after_of dangles
 node-after p f kind h = go (is_statement (home p)) (is_if_without_else p) _ (allows (follow (home p)) kind) h
   where

@@ -257,10 +257,10 @@ pointers-first : Chosen part.Pointers (λ _. true) move.Stay (symbol.Reduce make
 unfolding rule_check rule_shape
 pointers-first = record { index = 0; checked = refl; found = refl }
 
-abbrev not_star : Kind → Bool
+abbrev pub not_star : Kind → Bool
 not_star kind = not (is_star kind)
 
-stars-end : Chosen part.StarsTail not_star move.Stay []
+pub stars-end : Chosen part.StarsTail not_star move.Stay []
 unfolding rule_check rule_shape
 stars-end = record { index = 1; checked = refl; found = refl }
 

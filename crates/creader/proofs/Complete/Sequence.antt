@@ -122,7 +122,7 @@ open-may c (part class.optional_else ∷ []) w (more (node q h) (more v g)) afte
 open-may c _ w g after tokens s o m b e = absurd (no o)
 
 -- each part may stand before what stands behind it
-child-may : (c : Class) (pieces : List Piece) (w : Written) (g : Forest) (after : Kind → Bool) (tokens : List Token)
+pub child-may : (c : Class) (pieces : List Piece) (w : Written) (g : Forest) (after : Kind → Bool) (tokens : List Token)
     → fits (part c ∷ pieces) after ≡ true → Match (part c ∷ pieces) (more w g) → Begins after tokens → Ends (part c ∷ pieces) (more w g) tokens
     → Begins (may_follow c w) (spells g ++ tokens)
 unfolding Match fits

@@ -1,0 +1,183 @@
+-- How a parameter is read: its stars one by one, its name, and whether empty brackets stand behind it.
+use Rattle.std.specs.Prelude.{◌≡◌, Bool, true, false, not, ◌||◌, ◌&&◌, List, [], ◌∷◌, ◌++◌}
+use Rattle.std.proofs.Common.{refl, append_assoc}
+use Rattle.std.proofs.lemmas.Bool.{and_from, and_parts, not_from_false}
+use Rattle.csyn.specs.declared.token.Token.{Token}
+use Rattle.csyn.specs.declared.keyword.Keyword.TheVariants as keyword
+use Rattle.csyn.specs.declared.punctuator.Punctuator.TheVariants as punctuator
+use Rattle.cgrammar.specs.declared.kind.Kind.{Kind}
+use Rattle.cgrammar.specs.declared.production.Production.TheVariants as make
+use Rattle.cgrammar.specs.declared.terminal.Terminal.TheVariants as terminal
+use Rattle.cgrammar.specs.declared.part.Part.TheVariants as part
+use Rattle.cgrammar.specs.declared.part.Move.TheVariants as move
+use Rattle.cgrammar.specs.declared.part.Symbol.{Symbol}
+use Rattle.cgrammar.specs.declared.part.Symbol.TheVariants as symbol
+use Rattle.cgrammar.specs.Kind.{kind_of}
+use Rattle.cgrammar.specs.Terminal.{accepts}
+use Rattle.cgrammar.specs.Rules.{any_accepts}
+use Rattle.cgrammar.specs.Grammar as class
+use Rattle.cgrammar.specs.Grammar.{template, home}
+use Rattle.cgrammar.specs.Text.{Written, leaf, node, Forest, none, more, IsProper, Match, Stands, spell, spells}
+use Rattle.creader.specs.Machine.{at, Reaches, reduce}
+use Rattle.creader.proofs.Complete.Reading.{reader, follow, allows, is_statement, has_reader, Reads}
+use Rattle.creader.proofs.Complete.Heads.{AllKnown}
+use Rattle.creader.proofs.Complete.KnownReads.{known-reads}
+use Rattle.creader.proofs.Complete.Steps.{join, take-step, reduce-step, push}
+use Rattle.creader.proofs.Complete.Firsts.{sign, word, Begins, begins-as}
+use Rattle.creader.proofs.Complete.Sequence.{may_follow, reads-before, reads-from, readers, fits, child-may, sequence-reads}
+use Rattle.creader.proofs.Complete.Plain.{after_of, ready, ready_check, node-after, expanded}
+use Rattle.creader.proofs.Complete.Rule.{rule_check, rule_shape, Chosen, part-take, part-stay, stay-at, made-step, back-reduce, back-accepts, back-take-token, back-take, back-stay, hungry, no-tokens, refuse_check, refused}
+use Rattle.creader.proofs.Complete.Pointers.{is_star, is_qualifier, not_qualifier, not_star, Starred, stars-tail, stars-end, parameter-tail, stars-read}
+
+abbrev is_bracket : Kind → Bool
+is_bracket = accepts (sign punctuator.LeftBracket)
+
+abbrev is_closing : Kind → Bool
+is_closing = accepts (sign punctuator.RightBracket)
+
+abbrev is_named : Kind → Bool
+is_named = accepts terminal.Name
+
+abbrev ended : List Symbol
+ended = symbol.Reduce make.Parameter ∷ []
+
+abbrev lengths : List Symbol
+lengths = symbol.Read part.Lengths ∷ ended
+
+abbrev identified : List Symbol
+identified = symbol.Reduce make.Identifier ∷ lengths
+
+abbrev named : List Symbol
+named = symbol.Take terminal.Name ∷ identified
+
+abbrev one_length : List Symbol
+one_length = symbol.Read part.Expression ∷ symbol.Take (sign punctuator.RightBracket) ∷ symbol.Read part.Lengths ∷ symbol.Reduce make.Length ∷ []
+
+abbrev qualified : List Symbol
+qualified = symbol.Read part.Qualifiers ∷ symbol.Reduce make.QualifiedPointer ∷ symbol.Read part.PointersTail ∷ []
+
+parameter-first : Chosen part.Parameter (λ _. true) move.Stay (symbol.Read part.Type ∷ symbol.Reduce make.NoPointers ∷ symbol.Read part.ParameterTail ∷ [])
+unfolding rule_check rule_shape
+parameter-first = record { index = 0; checked = refl; found = refl }
+
+tail-name : Chosen part.ParameterTail is_named move.Take (symbol.Reduce make.Identifier ∷ symbol.Read part.ParameterEnd ∷ [])
+unfolding rule_check rule_shape
+tail-name = record { index = 1; checked = refl; found = refl }
+
+star-qualifier : Chosen part.ParameterAfterStar is_qualifier move.Take (qualified ++ named)
+unfolding rule_check rule_shape
+star-qualifier = record { index = 0; checked = refl; found = refl }
+
+after-qualifier : Chosen part.AfterStar is_qualifier move.Take qualified
+unfolding rule_check rule_shape
+after-qualifier = record { index = 0; checked = refl; found = refl }
+
+end-bracket : Chosen part.ParameterEnd is_bracket move.Take (symbol.Read part.ParameterLength ∷ [])
+unfolding rule_check rule_shape
+end-bracket = record { index = 0; checked = refl; found = refl }
+
+end-other : Chosen part.ParameterEnd (λ k. not (is_bracket k)) move.Stay (symbol.Reduce make.NoLengths ∷ ended)
+unfolding rule_check rule_shape
+end-other = record { index = 1; checked = refl; found = refl }
+
+length-closing : Chosen part.ParameterLength is_closing move.Take (symbol.Reduce make.ArrayParameter ∷ [])
+unfolding rule_check rule_shape
+length-closing = record { index = 0; checked = refl; found = refl }
+
+length-other : Chosen part.ParameterLength (λ k. not (is_closing k)) move.Stay (one_length ++ ended)
+unfolding rule_check rule_shape
+length-other = record { index = 1; checked = refl; found = refl }
+
+lengths-bracket : Chosen part.Lengths is_bracket move.Take one_length
+unfolding rule_check rule_shape
+lengths-bracket = record { index = 0; checked = refl; found = refl }
+
+lengths-other : Chosen part.Lengths (λ k. not (is_bracket k)) move.Stay (symbol.Reduce make.NoLengths ∷ [])
+unfolding rule_check rule_shape
+lengths-other = record { index = 1; checked = refl; found = refl }
+
+-- behind the name: a length, or none
+end-join : (symbols : List Symbol) (values others : List Written) (tokens left : List Token)
+    → Reaches (at (lengths ++ symbols) values tokens) (at symbols others left)
+    → Reaches (at (symbol.Read part.ParameterEnd ∷ symbols) values tokens) (at symbols others left)
+unfolding hungry refuse_check
+end-join symbols values others [] left reached = absurd (no-tokens lengths symbols values others left refl reached)
+end-join symbols values others (y ∷ tokens) left reached = go (is_bracket (kind_of y)) refl
+  where
+    length-join : (tokens : List Token) → Reaches (at (one_length ++ ended ++ symbols) (leaf y ∷ values) tokens) (at symbols others left)
+        → Reaches (at (symbol.Read part.ParameterLength ∷ symbols) (leaf y ∷ values) tokens) (at symbols others left)
+    length-join [] inside = absurd (no-tokens (one_length ++ ended) symbols (leaf y ∷ values) others left refl inside)
+    length-join (z ∷ tokens) inside = closing (is_closing (kind_of z)) refl
+      where
+        closing : (b : Bool) → is_closing (kind_of z) ≡ b
+            → Reaches (at (symbol.Read part.ParameterLength ∷ symbols) (leaf y ∷ values) (z ∷ tokens)) (at symbols others left)
+        closing true b = absurd (refused (one_length ++ ended) symbols (leaf y ∷ values) others is_closing z tokens left refl b inside)
+        closing false b =
+            join (part-stay part.ParameterLength (λ k. not (is_closing k)) _ symbols (leaf y ∷ values) z tokens length-other (not_from_false _ b)) inside
+    go : (b : Bool) → is_bracket (kind_of y) ≡ b → Reaches (at (symbol.Read part.ParameterEnd ∷ symbols) values (y ∷ tokens)) (at symbols others left)
+    go true b =
+        join (part-take part.ParameterEnd is_bracket _ symbols values y tokens end-bracket b)
+        (length-join tokens (back-take ended symbols values others left part.Lengths is_bracket _ y tokens lengths-bracket b reached))
+    go false b =
+        join (part-stay part.ParameterEnd (λ k. not (is_bracket k)) _ symbols values y tokens end-other (not_from_false _ b))
+        (back-stay ended symbols values others left part.Lengths (λ k. not (is_bracket k)) _ y tokens lengths-other (not_from_false _ b) reached)
+
+-- the name itself
+name-join : (symbols : List Symbol) (values others : List Written) (x : Token) (tokens left : List Token) → is_star (kind_of x) ≡ false
+    → Reaches (at (symbol.Read part.StarsTail ∷ named ++ symbols) values (x ∷ tokens)) (at symbols others left)
+    → Reaches (at (symbol.Read part.ParameterTail ∷ symbols) values (x ∷ tokens)) (at symbols others left)
+name-join symbols values others x tokens left s reached =
+    let r1 = back-stay named symbols values others left part.StarsTail not_star [] x tokens stars-end (not_from_false _ s) reached in
+    let n = back-accepts identified symbols values others left terminal.Name x tokens r1 in
+    let r2 = back-take-token identified symbols values others left terminal.Name x tokens r1 in
+    let r3 = back-reduce lengths symbols (leaf x ∷ values) others left make.Identifier tokens r2 in
+    join (part-take part.ParameterTail is_named _ symbols values x tokens tail-name n)
+    (join (reduce-step make.Identifier (symbol.Read part.ParameterEnd ∷ symbols) (leaf x ∷ values) tokens)
+    (end-join symbols (reduce make.Identifier (leaf x ∷ values)) others tokens left r3))
+
+-- a star, and what stands behind it
+star-join : (symbols : List Symbol) (values others : List Written) (x : Token) (tokens left : List Token) → is_star (kind_of x) ≡ true
+    → ((values : List Written) → Reaches (at (symbol.Read part.StarsTail ∷ named ++ symbols) values tokens) (at symbols others left)
+      → Reaches (at (symbol.Read part.ParameterTail ∷ symbols) values tokens) (at symbols others left))
+    → Reaches (at (symbol.Read part.StarsTail ∷ named ++ symbols) values (x ∷ tokens)) (at symbols others left)
+    → Reaches (at (symbol.Read part.ParameterTail ∷ symbols) values (x ∷ tokens)) (at symbols others left)
+unfolding hungry
+star-join symbols values others x [] left s again reached =
+    absurd (no-tokens (symbol.Read part.AfterStar ∷ named) symbols (leaf x ∷ values) others left refl
+      (back-take named symbols values others left part.StarsTail is_star _ x [] stars-tail.starred s reached))
+star-join symbols values others x (y ∷ tokens) left s again reached = go (is_qualifier (kind_of y)) refl
+  where
+    inside : Reaches (at (symbol.Read part.AfterStar ∷ named ++ symbols) (leaf x ∷ values) (y ∷ tokens)) (at symbols others left)
+    inside = back-take named symbols values others left part.StarsTail is_star _ x (y ∷ tokens) stars-tail.starred s reached
+    go : (q : Bool) → is_qualifier (kind_of y) ≡ q → Reaches (at (symbol.Read part.ParameterTail ∷ symbols) values (x ∷ y ∷ tokens)) (at symbols others left)
+    go true q =
+        join (part-take part.ParameterTail is_star _ symbols values x (y ∷ tokens) parameter-tail.starred s)
+        (join (part-take part.ParameterAfterStar is_qualifier _ symbols (leaf x ∷ values) y tokens star-qualifier q)
+        (back-take named symbols (leaf x ∷ values) others left part.AfterStar is_qualifier _ y tokens after-qualifier q inside))
+    go false q =
+        let stay = back-stay named symbols (leaf x ∷ values) others left part.AfterStar not_qualifier _ y tokens stars-tail.bare (not_from_false _ q) inside in
+        join (part-take part.ParameterTail is_star _ symbols values x (y ∷ tokens) parameter-tail.starred s)
+        (join (part-stay part.ParameterAfterStar not_qualifier _ symbols (leaf x ∷ values) y tokens parameter-tail.bare (not_from_false _ q))
+        (join (reduce-step make.Star (symbol.Read part.ParameterTail ∷ symbols) (leaf x ∷ values) (y ∷ tokens))
+        (again (reduce make.Star (leaf x ∷ values))
+          (back-reduce (symbol.Read part.StarsTail ∷ named) symbols (leaf x ∷ values) others left make.Star (y ∷ tokens) stay))))
+
+-- Stars and a name, as if the stars were read by themselves.
+tail-join : (symbols : List Symbol) (values others : List Written) (tokens left : List Token)
+    → Reaches (at (symbol.Read part.StarsTail ∷ named ++ symbols) values tokens) (at symbols others left)
+    → Reaches (at (symbol.Read part.ParameterTail ∷ symbols) values tokens) (at symbols others left)
+unfolding hungry
+tail-join symbols values others [] left reached = absurd (no-tokens (symbol.Read part.StarsTail ∷ named) symbols values others left refl reached)
+tail-join symbols values others (x ∷ tokens) left reached =
+    ways symbols values others x tokens left (λ values' reached'. tail-join symbols values' others tokens left reached') reached
+  where
+    ways : (symbols : List Symbol) (values others : List Written) (x : Token) (tokens left : List Token)
+        → ((values : List Written) → Reaches (at (symbol.Read part.StarsTail ∷ named ++ symbols) values tokens) (at symbols others left)
+          → Reaches (at (symbol.Read part.ParameterTail ∷ symbols) values tokens) (at symbols others left))
+        → Reaches (at (symbol.Read part.StarsTail ∷ named ++ symbols) values (x ∷ tokens)) (at symbols others left)
+        → Reaches (at (symbol.Read part.ParameterTail ∷ symbols) values (x ∷ tokens)) (at symbols others left)
+    ways symbols values others x tokens left again reached = go (is_star (kind_of x)) refl
+      where
+        go : (s : Bool) → is_star (kind_of x) ≡ s → Reaches (at (symbol.Read part.ParameterTail ∷ symbols) values (x ∷ tokens)) (at symbols others left)
+        go true s = star-join symbols values others x tokens left s again reached
+        go false s = name-join symbols values others x tokens left s reached
