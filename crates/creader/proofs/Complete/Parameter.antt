@@ -1,7 +1,7 @@
 -- How a parameter is read: its stars one by one, its name, and whether empty brackets stand behind it.
 use Rattle.std.specs.Prelude.{◌≡◌, Bool, true, false, not, ◌||◌, ◌&&◌, List, [], ◌∷◌, ◌++◌}
 use Rattle.std.proofs.Common.{refl, append_assoc}
-use Rattle.std.proofs.lemmas.Bool.{and_from, and_parts, not_from_false}
+use Rattle.std.proofs.lemmas.Bool.{and_from, and_parts, both_ways, not_from_false}
 use Rattle.csyn.specs.declared.token.Token.{Token}
 use Rattle.csyn.specs.declared.keyword.Keyword.TheVariants as keyword
 use Rattle.csyn.specs.declared.punctuator.Punctuator.TheVariants as punctuator
@@ -16,18 +16,18 @@ use Rattle.cgrammar.specs.Kind.{kind_of}
 use Rattle.cgrammar.specs.Terminal.{accepts}
 use Rattle.cgrammar.specs.Rules.{any_accepts}
 use Rattle.cgrammar.specs.Grammar as class
-use Rattle.cgrammar.specs.Grammar.{template, home}
+use Rattle.cgrammar.specs.Grammar.{Piece, template, home}
 use Rattle.cgrammar.specs.Text.{Written, leaf, node, Forest, none, more, IsProper, Match, Stands, spell, spells}
 use Rattle.creader.specs.Machine.{at, Reaches, reduce}
 use Rattle.creader.proofs.Complete.Reading.{reader, follow, allows, is_statement, has_reader, Reads}
-use Rattle.creader.proofs.Complete.Heads.{AllKnown}
+use Rattle.creader.proofs.Complete.Heads.{Known, AllKnown}
 use Rattle.creader.proofs.Complete.KnownReads.{known-reads}
 use Rattle.creader.proofs.Complete.Steps.{join, take-step, reduce-step, push}
-use Rattle.creader.proofs.Complete.Firsts.{sign, word, Begins, begins-as}
-use Rattle.creader.proofs.Complete.Sequence.{may_follow, reads-before, reads-from, readers, fits, child-may, sequence-reads}
+use Rattle.creader.proofs.Complete.Firsts.{sign, may_begin, Begins, begins-as, forest-begins, no}
+use Rattle.creader.proofs.Complete.Sequence.{may_follow, reads-before, reads-from, readers, ends_open, fits, child-may, sequence-reads}
 use Rattle.creader.proofs.Complete.Plain.{after_of, ready, ready_check, node-after, expanded}
 use Rattle.creader.proofs.Complete.Rule.{rule_check, rule_shape, Chosen, part-take, part-stay, stay-at, made-step, back-reduce, back-accepts, back-take-token, back-take, back-stay, hungry, no-tokens, refuse_check, refused}
-use Rattle.creader.proofs.Complete.Pointers.{is_star, is_qualifier, not_qualifier, not_star, Starred, stars-tail, stars-end, parameter-tail, stars-read}
+use Rattle.creader.proofs.Complete.Pointers.{is_star, is_qualifier, not_qualifier, not_star, stars-pointers, pointers-first, Starred, stars-tail, stars-end, parameter-tail, stars-read}
 
 abbrev is_bracket : Kind → Bool
 is_bracket = accepts (sign punctuator.LeftBracket)
@@ -181,3 +181,46 @@ tail-join symbols values others (x ∷ tokens) left reached =
         go : (s : Bool) → is_star (kind_of x) ≡ s → Reaches (at (symbol.Read part.ParameterTail ∷ symbols) values (x ∷ tokens)) (at symbols others left)
         go true s = star-join symbols values others x tokens left s again reached
         go false s = name-join symbols values others x tokens left s reached
+
+-- pointers and a name
+pointers-join : (symbols : List Symbol) (values others : List Written) (tokens left : List Token)
+    → Reaches (at (symbol.Read part.Pointers ∷ named ++ symbols) values tokens) (at symbols others left)
+    → Reaches (at (symbol.Reduce make.NoPointers ∷ symbol.Read part.ParameterTail ∷ symbols) values tokens) (at symbols others left)
+unfolding hungry
+pointers-join symbols values others [] left reached = absurd (no-tokens (symbol.Read part.Pointers ∷ named) symbols values others left refl reached)
+pointers-join symbols values others (x ∷ tokens) left reached =
+    let stay = back-stay named symbols values others left part.Pointers (λ _. true) _ x tokens pointers-first refl reached in
+    join (reduce-step make.NoPointers (symbol.Read part.ParameterTail ∷ symbols) values (x ∷ tokens))
+    (tail-join symbols (reduce make.NoPointers values) others (x ∷ tokens) left
+      (back-reduce (symbol.Read part.StarsTail ∷ named) symbols values others left make.NoPointers (x ∷ tokens) stay))
+
+-- the type of a parameter
+type-front : (pieces : List Piece) (ty : Written) (g : Forest) (after : Kind → Bool) (symbols : List Symbol) (values : List Written) (tokens : List Token)
+    → fits (class.part class.«type» ∷ pieces) after ≡ true → ends_open (class.part class.«type» ∷ pieces) ≡ false
+    → Match (class.part class.«type» ∷ pieces) (more ty g) → Known ty → Begins after tokens
+    → Reaches (at (symbol.Read part.Parameter ∷ symbols) values ((spell ty ++ spells g) ++ tokens))
+      (at (symbol.Reduce make.NoPointers ∷ symbol.Read part.ParameterTail ∷ symbols) (ty ∷ values) (spells g ++ tokens))
+unfolding has_reader reader Match
+type-front pieces ty g after symbols values tokens h o m known b =
+    let may = child-may class.«type» pieces ty g after tokens h m b (λ e. absurd (both_ways _ o e)) in
+    let r = known-reads ty class.«type» known m.0 refl in
+    let first = stay-at part.Parameter (λ _. true) _ symbols values ((spell ty ++ spells g) ++ tokens) parameter-first
+        (begins-as (may_begin (class.part class.«type» ∷ pieces) after) (λ _. true) ((spell ty ++ spells g) ++ tokens) (λ _ _. refl)
+          (forest-begins (more ty g) (class.part class.«type» ∷ pieces) m after tokens b)) in
+    join first (rw append_assoc (reads-before class.«type» ty r (symbol.Reduce make.NoPointers ∷ symbol.Read part.ParameterTail ∷ symbols) values (spells g ++ tokens) may))
+
+parameter-fits : fits (template make.Parameter) (after_of make.Parameter) ≡ true
+unfolding ready_check
+parameter-fits = refl
+
+pub parameter-reads : (f : Forest) → Match (template make.Parameter) f → AllKnown f → Reads class.parameter (node make.Parameter f)
+unfolding ready_check template home reader readers push AllKnown Match
+parameter-reads none m known = absurd m
+parameter-reads (more ty g) m known = reads-from class.parameter (node make.Parameter (more ty g)) (λ symbols values tokens b.
+    let w = node make.Parameter (more ty g) in
+    let b' = begins-as (may_follow class.parameter w) (after_of make.Parameter) tokens (node-after make.Parameter (more ty g)) b in
+    let pieces = class.part class.pointers ∷ class.part class.identifier ∷ class.part class.lengths ∷ [] in
+    let others = sequence-reads pieces g (after_of make.Parameter) (symbol.Reduce make.Parameter ∷ symbols) (ty ∷ values) tokens refl m.3 known.1 b' (λ e. absurd (no e)) in
+    join (type-front pieces ty g (after_of make.Parameter) symbols values tokens parameter-fits refl m known.0 b')
+    (pointers-join symbols (ty ∷ values) (w ∷ values) (spells g ++ tokens) tokens
+      (join others (made-step make.Parameter (more ty g) symbols values tokens m))))

@@ -253,7 +253,7 @@ qualified-read (node make.NextPointer (more c (more (leaf x) (more d f)))) st m 
 qualified-read (node make.NextPointer (more c (more (node q g) f))) st m deep symbols values tokens b = absurd m.3.0
 qualified-read (node p f) st m deep symbols values tokens b = absurd (no (qualified-makers p st))
 
-pointers-first : Chosen part.Pointers (λ _. true) move.Stay (symbol.Reduce make.NoPointers ∷ symbol.Read part.StarsTail ∷ [])
+pub pointers-first : Chosen part.Pointers (λ _. true) move.Stay (symbol.Reduce make.NoPointers ∷ symbol.Read part.StarsTail ∷ [])
 unfolding rule_check rule_shape
 pointers-first = record { index = 0; checked = refl; found = refl }
 
@@ -294,3 +294,14 @@ pointers-read p f u m deep = reads-from class.pointers (node p f) (λ symbols va
     go symbols values tokens b (inr e) =
         join (qualified-read (node p f) e m deep symbols values tokens (begins-as (may_follow class.pointers (node p f)) not_qualifier tokens (λ kind h. (pointers-may (node p f) kind h).0) b))
         (stay-at part.PointersTail not_star [] symbols (node p f ∷ values) tokens pointers-end (begins-as (may_follow class.pointers (node p f)) not_star tokens (λ kind h. (pointers-may (node p f) kind h).1) b))
+
+-- stars are pointers
+pub stars-pointers : (w : Written) → Stands (class.part class.stars) w → Stands (class.part class.pointers) w
+unfolding under home class_number is_wider
+stars-pointers (leaf t) s = s
+stars-pointers (node p f) s = go (rw stars-list at (in-makers p class.stars s))
+  where
+    go : In p (make.NoPointers ∷ make.Star ∷ []) → under (home p) class.pointers ≡ true
+    go (inl e) = rw e refl
+    go (inr (inl e)) = rw e refl
+    go (inr (inr e)) = absurd e
