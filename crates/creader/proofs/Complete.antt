@@ -16,3 +16,4 @@ pub mod Words
 pub mod Pointers
 pub mod Parameters
 pub mod Parameter
+pub mod Arrays

@@ -29,13 +29,13 @@ use Rattle.creader.proofs.Complete.Plain.{after_of, ready, ready_check, node-aft
 use Rattle.creader.proofs.Complete.Rule.{rule_check, rule_shape, Chosen, part-take, part-stay, stay-at, made-step, back-reduce, back-accepts, back-take-token, back-take, back-stay, hungry, no-tokens, refuse_check, refused}
 use Rattle.creader.proofs.Complete.Pointers.{is_star, is_qualifier, not_qualifier, not_star, stars-pointers, pointers-first, Starred, stars-tail, stars-end, parameter-tail, stars-read}
 
-abbrev is_bracket : Kind → Bool
+abbrev pub is_bracket : Kind → Bool
 is_bracket = accepts (sign punctuator.LeftBracket)
 
-abbrev is_closing : Kind → Bool
+abbrev pub is_closing : Kind → Bool
 is_closing = accepts (sign punctuator.RightBracket)
 
-abbrev is_named : Kind → Bool
+abbrev pub is_named : Kind → Bool
 is_named = accepts terminal.Name
 
 abbrev ended : List Symbol
@@ -60,7 +60,7 @@ parameter-first : Chosen part.Parameter (λ _. true) move.Stay (symbol.Read part
 unfolding rule_check rule_shape
 parameter-first = record { index = 0; checked = refl; found = refl }
 
-tail-name : Chosen part.ParameterTail is_named move.Take (symbol.Reduce make.Identifier ∷ symbol.Read part.ParameterEnd ∷ [])
+pub tail-name : Chosen part.ParameterTail is_named move.Take (symbol.Reduce make.Identifier ∷ symbol.Read part.ParameterEnd ∷ [])
 unfolding rule_check rule_shape
 tail-name = record { index = 1; checked = refl; found = refl }
 
@@ -72,7 +72,7 @@ after-qualifier : Chosen part.AfterStar is_qualifier move.Take qualified
 unfolding rule_check rule_shape
 after-qualifier = record { index = 0; checked = refl; found = refl }
 
-end-bracket : Chosen part.ParameterEnd is_bracket move.Take (symbol.Read part.ParameterLength ∷ [])
+pub end-bracket : Chosen part.ParameterEnd is_bracket move.Take (symbol.Read part.ParameterLength ∷ [])
 unfolding rule_check rule_shape
 end-bracket = record { index = 0; checked = refl; found = refl }
 
@@ -80,7 +80,7 @@ end-other : Chosen part.ParameterEnd (λ k. not (is_bracket k)) move.Stay (symbo
 unfolding rule_check rule_shape
 end-other = record { index = 1; checked = refl; found = refl }
 
-length-closing : Chosen part.ParameterLength is_closing move.Take (symbol.Reduce make.ArrayParameter ∷ [])
+pub length-closing : Chosen part.ParameterLength is_closing move.Take (symbol.Reduce make.ArrayParameter ∷ [])
 unfolding rule_check rule_shape
 length-closing = record { index = 0; checked = refl; found = refl }
 
@@ -195,7 +195,7 @@ pointers-join symbols values others (x ∷ tokens) left reached =
       (back-reduce (symbol.Read part.StarsTail ∷ named) symbols values others left make.NoPointers (x ∷ tokens) stay))
 
 -- the type of a parameter
-type-front : (pieces : List Piece) (ty : Written) (g : Forest) (after : Kind → Bool) (symbols : List Symbol) (values : List Written) (tokens : List Token)
+pub type-front : (pieces : List Piece) (ty : Written) (g : Forest) (after : Kind → Bool) (symbols : List Symbol) (values : List Written) (tokens : List Token)
     → fits (class.part class.«type» ∷ pieces) after ≡ true → ends_open (class.part class.«type» ∷ pieces) ≡ false
     → Match (class.part class.«type» ∷ pieces) (more ty g) → Known ty → Begins after tokens
     → Reaches (at (symbol.Read part.Parameter ∷ symbols) values ((spell ty ++ spells g) ++ tokens))
