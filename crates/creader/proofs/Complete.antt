@@ -17,3 +17,4 @@ pub mod Pointers
 pub mod Parameters
 pub mod Parameter
 pub mod Arrays
+pub mod Whole
