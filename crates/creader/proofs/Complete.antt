@@ -18,3 +18,4 @@ pub mod Parameters
 pub mod Parameter
 pub mod Arrays
 pub mod Whole
+pub mod Accepted
