@@ -1,38 +1,32 @@
 -- How a parameter with empty brackets is read.
-use Rattle.std.specs.Prelude.{◌≡◌, Bool, true, false, not, ◌||◌, ◌&&◌, List, [], ◌∷◌, ◌++◌}
+use Rattle.std.specs.Prelude.{◌≡◌, true, not, ◌||◌, List, [], ◌∷◌, ◌++◌}
 use Rattle.std.proofs.Common.{refl, sym, subst, append_assoc, inl, inr}
-use Rattle.std.proofs.lemmas.Bool.{and_from, and_parts, both_ways, not_from_false}
 use Rattle.csyn.specs.declared.token.Token.{Token}
-use Rattle.csyn.specs.declared.keyword.Keyword.TheVariants as keyword
 use Rattle.csyn.specs.declared.punctuator.Punctuator.TheVariants as punctuator
 use Rattle.cgrammar.specs.declared.kind.Kind.{Kind}
 use Rattle.cgrammar.specs.declared.production.Production.{Production}
 use Rattle.cgrammar.specs.declared.production.Production.TheVariants as make
 use Rattle.cgrammar.specs.declared.terminal.Terminal.TheVariants as terminal
 use Rattle.cgrammar.specs.declared.part.Part.TheVariants as part
-use Rattle.cgrammar.specs.declared.part.Move.TheVariants as move
 use Rattle.cgrammar.specs.declared.part.Symbol.{Symbol}
 use Rattle.cgrammar.specs.declared.part.Symbol.TheVariants as symbol
 use Rattle.cgrammar.specs.Kind.{kind_of}
 use Rattle.cgrammar.specs.Terminal.{accepts, keyword_number, punctuator_number}
-use Rattle.cgrammar.specs.Rules.{any_accepts}
 use Rattle.cgrammar.specs.Grammar as class
 use Rattle.cgrammar.specs.Grammar.{Piece, template, home, under, is_wider, class_number, words_number, operator_level, assignment_class, alone, joined}
-use Rattle.cgrammar.specs.Text.{Written, leaf, node, Forest, none, more, IsProper, Match, Stands, spell, spells}
-use Rattle.creader.specs.Machine.{at, Reaches, reduce}
-use Rattle.creader.proofs.Complete.Reading.{reader, follow, allows, is_statement, has_reader, Reads}
+use Rattle.cgrammar.specs.Text.{Written, leaf, node, Forest, none, more, IsProper, Match, Stands, spell}
+use Rattle.creader.specs.Machine.{at, Reaches}
+use Rattle.creader.proofs.Complete.Reading.{reader, Reads}
 use Rattle.creader.proofs.Complete.Heads.{Known, AllKnown}
-use Rattle.creader.proofs.Complete.KnownReads.{known-reads}
-use Rattle.creader.proofs.Complete.Steps.{join, take-step, reduce-step, push}
-use Rattle.creader.proofs.Complete.Firsts.{sign, may_begin, Begins, begins-as, forest-begins, implied, no}
-use Rattle.creader.proofs.Complete.Sequence.{may_follow, reads-before, reads-from, readers, ends_open, fits, child-may, sequence-reads}
-use Rattle.creader.proofs.Complete.Plain.{after_of, ready, ready_check, node-after, expanded}
-use Rattle.creader.proofs.Complete.Rule.{rule_check, rule_shape, Chosen, part-take, part-stay, stay-at, made-step, back-reduce, back-accepts, back-take-token, back-take, back-stay, hungry, no-tokens, refuse_check, refused}
+use Rattle.creader.proofs.Complete.Steps.{join, push}
+use Rattle.creader.proofs.Complete.Firsts.{sign, begins-as, implied}
+use Rattle.creader.proofs.Complete.Sequence.{may_follow, reads-from}
+use Rattle.creader.proofs.Complete.Plain.{after_of, ready_check, node-after}
+use Rattle.creader.proofs.Complete.Rule.{part-take, made-step}
 use Rattle.creader.proofs.Complete.Parameter.{is_bracket, is_closing, is_named, tail-name, end-bracket, length-closing, type-front}
 use Rattle.creader.proofs.Complete.Productions.{productions, kept, makers, In, in-makers}
 use Rattle.creader.proofs.Complete.Kinds.{kinds, each, every_kind, at-kind}
-use Rattle.creader.proofs.Complete.Pointers.{is_star, is_qualifier, not_qualifier, not_star, stars-pointers, pointers-first, Starred, stars-tail, stars-end, parameter-tail, stars-read}
-
+use Rattle.creader.proofs.Complete.Pointers.{not_qualifier, stars-pointers, parameter-tail, stars-read}
 
 identifier-list : makers class.identifier ≡ make.Identifier ∷ []
 unfolding makers kept productions under home is_wider class_number words_number operator_level assignment_class alone joined
@@ -76,12 +70,12 @@ name-no-qualifier kind h = implied _ _ (at-kind (λ k. not (is_named k) || not_q
 array-end : (ty st : Written) (n l r : Token) (symbols : List Symbol) (values : List Written) (tokens : List Token)
     → Match (template make.ArrayParameter) (more ty (more st (more (node make.Identifier (more (leaf n) none)) (more (leaf l) (more (leaf r) none)))))
     → Reaches (at (symbol.Reduce make.NoPointers ∷ symbol.Read part.ParameterTail ∷ symbols) (ty ∷ values) (spell st ++ n ∷ l ∷ r ∷ tokens))
-      (at symbols (node make.ArrayParameter (more ty (more st (more (node make.Identifier (more (leaf n) none)) (more (leaf l) (more (leaf r) none))))) ∷ values) tokens)
+    (at symbols (node make.ArrayParameter (more ty (more st (more (node make.Identifier (more (leaf n) none)) (more (leaf l) (more (leaf r) none))))) ∷ values) tokens)
 unfolding template Match IsProper push
 array-end ty st n l r symbols values tokens m =
     let i = m.3.3.1 in
     join (stars-read part.ParameterTail part.ParameterAfterStar parameter-tail st m.3.0 m.3.1 symbols (ty ∷ values) (n ∷ l ∷ r ∷ tokens)
-        (name-no-qualifier (kind_of n) i.0))
+    (name-no-qualifier (kind_of n) i.0))
     (join (part-take part.ParameterTail is_named _ symbols (st ∷ ty ∷ values) n (l ∷ r ∷ tokens) tail-name i.0)
     (join (made-step make.Identifier (more (leaf n) none) (symbol.Read part.ParameterEnd ∷ symbols) (st ∷ ty ∷ values) (l ∷ r ∷ tokens) i)
     (join (part-take part.ParameterEnd is_bracket _ symbols (node make.Identifier (more (leaf n) none) ∷ st ∷ ty ∷ values) l (r ∷ tokens) end-bracket m.3.3.3.0)
@@ -99,7 +93,7 @@ array-named ty st n l r m known = reads-from class.parameter _ (λ symbols value
     let g = more st (more (node make.Identifier (more (leaf n) none)) (more (leaf l) (more (leaf r) none))) in
     let b' = begins-as (may_follow class.parameter (node make.ArrayParameter (more ty g))) (after_of make.ArrayParameter) tokens (node-after make.ArrayParameter (more ty g)) b in
     let front = type-front array_pieces ty g (after_of make.ArrayParameter) symbols values tokens refl refl
-        (m.0, m.1, m.2, (stars-pointers st m.3.0, m.3.1, m.3.2, m.3.3)) known b' in
+    (m.0, m.1, m.2, (stars-pointers st m.3.0, m.3.1, m.3.2, m.3.3)) known b' in
     join front (rw (append_assoc (spell st) (n ∷ l ∷ r ∷ []) tokens) (array-end ty st n l r symbols values tokens m)))
 
 pub array-reads : (f : Forest) → Match (template make.ArrayParameter) f → AllKnown f → Reads class.parameter (node make.ArrayParameter f)
@@ -112,8 +106,8 @@ array-reads (more ty (more st (more id (more l none)))) m known = absurd m.3.3.3
 array-reads (more ty (more st (more id (more (leaf l) (more (leaf r) none))))) m known =
     let named = identifier-named id m.3.3.0 m.3.3.1 in
     (subst (λ (v : Written). Match (template make.ArrayParameter) (more ty (more st (more v (more (leaf l) (more (leaf r) none)))))
-      → Reads class.parameter (node make.ArrayParameter (more ty (more st (more v (more (leaf l) (more (leaf r) none)))))))
-      (sym named.same) (λ m'. array-named ty st named.name l r m' known.0)) m
+    → Reads class.parameter (node make.ArrayParameter (more ty (more st (more v (more (leaf l) (more (leaf r) none)))))))
+    (sym named.same) (λ m'. array-named ty st named.name l r m' known.0)) m
 array-reads (more ty (more st (more id (more (leaf l) (more (leaf r) (more v f)))))) m known = absurd m.3.3.3.3.3
 array-reads (more ty (more st (more id (more (leaf l) (more (node p g) f))))) m known = absurd m.3.3.3.3.0
 array-reads (more ty (more st (more id (more (node p g) (more r f))))) m known = absurd m.3.3.3.0

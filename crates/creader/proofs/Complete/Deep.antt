@@ -1,7 +1,4 @@
 -- What is known of all parts of a tree.
-use Rattle.std.specs.Prelude.{◌≡◌, Bool, true, false, not, nat_eq, List, [], ◌∷◌}
-use Rattle.std.proofs.Common.{refl, sym, ap, ◌∙◌}
-use Rattle.cgrammar.specs.declared.production.Production.{Production}
 use Rattle.cgrammar.specs.Text.{Written, leaf, node, Forest, none, more}
 use Rattle.creader.proofs.Complete.Heads.{Known, AllKnown}
 

@@ -1,7 +1,7 @@
 -- With which tokens a part of a class begins, and whether it may be empty.
-use Rattle.std.specs.Prelude.{◌≡◌, ℕ, ◌+◌, ◌-◌, Bool, true, false, not, ◌||◌, ◌&&◌, ◌⊎◌, List, [], ◌∷◌, ◌++◌, Option, Some, None, if◌then◌else◌}
+use Rattle.std.specs.Prelude.{◌≡◌, Bool, true, false, not, ◌||◌, ◌&&◌, ◌⊎◌, List, [], ◌∷◌, ◌++◌}
 use Rattle.std.proofs.Common.{refl, append_assoc, inl, inr}
-use Rattle.std.proofs.lemmas.Bool.{eqb-true, le-leb, and_parts, and_from, or_cases, or_left, or_right, not-true, cases_Bool, not_from_false}
+use Rattle.std.proofs.lemmas.Bool.{and_parts, and_from, or_cases, or_left, or_right}
 use Rattle.csyn.specs.declared.token.Token.{Token}
 use Rattle.csyn.specs.declared.keyword.Keyword.{Keyword}
 use Rattle.csyn.specs.declared.keyword.Keyword.TheVariants as keyword
@@ -19,10 +19,10 @@ use Rattle.cgrammar.specs.Kind.{kind_of}
 use Rattle.cgrammar.specs.Terminal.{accepts, keyword_number, punctuator_number}
 use Rattle.cgrammar.specs.Rules.{any_accepts}
 use Rattle.cgrammar.specs.Grammar as class
-use Rattle.cgrammar.specs.Grammar.{Class, Piece, token, part, template, home, under, is_wider, class_number, words_number, operator_level, operator_token, assignment_class, assignment_token, word_token, alone, before, joined}
+use Rattle.cgrammar.specs.Grammar.{Class, Piece, token, part, template, home, under, is_wider, operator_level, operator_token, assignment_class, assignment_token, word_token, alone, before, joined}
 use Rattle.cgrammar.specs.Text.{Written, leaf, node, Forest, none, more, IsProper, Match, Stands, spell, spells}
 use Rattle.creader.proofs.Complete.Classes.{under-ways}
-use Rattle.creader.proofs.Complete.Kinds.{entry, every_kind, at-kind, kinds, each}
+use Rattle.creader.proofs.Complete.Kinds.{every_kind, at-kind, kinds, each}
 
 abbrev pub sign : Punctuator → Terminal
 sign mark = terminal.Punctuator mark
@@ -232,6 +232,7 @@ production-begins p c u test kind h =
     both : (every_kind (λ k. not (may_begin (template p) never k) || any_accepts (firsts (home p)) k) ≡ true)
         × ((not (all_nullable (template p)) || nullable (home p)) ≡ true)
     both = and_parts (every_kind (λ k. not (may_begin (template p) never k) || any_accepts (firsts (home p)) k)) _ (closed-all p)
+
     go : (may_begin (template p) never kind ≡ true) ⊎ ((all_nullable (template p) && test kind) ≡ true)
         → (any_accepts (firsts c) kind || (nullable c && test kind)) ≡ true
     go (inl e) =
@@ -244,6 +245,7 @@ production-begins p c u test kind h =
 -- What is written begins as its class or its pieces say, before what begins with a token that passes the test.
 mutual
   unfolding IsProper may_begin
+
   pub written-begins : (w : Written) → IsProper w → (c : Class) → Stands (part c) w → (test : Kind → Bool) (tokens : List Token) → Begins test tokens
       → Begins (λ kind. any_accepts (firsts c) kind || (nullable c && test kind)) (spell w ++ tokens)
   written-begins (leaf t) m c s test tokens b = absurd s

@@ -1,6 +1,6 @@
 -- How expressions are read. An expression of level m that is read where one of level n ≤ m is wanted leaves symbols behind it, by which
 -- the reader goes on to a longer expression or drops them: so an operator behind it is read by what is left.
-use Rattle.std.specs.Prelude.{◌≡◌, ℕ, ◌+◌, Bool, true, false, not, ◌||◌, ◌&&◌, nat_le, nat_eq, List, [], ◌∷◌, ◌++◌, map, filter, Option, Some, None, if◌then◌else◌}
+use Rattle.std.specs.Prelude.{◌≡◌, ℕ, ◌+◌, Bool, true, false, not, ◌&&◌, nat_le, nat_eq, List, [], ◌∷◌, ◌++◌, map, filter, Option, Some, None, if◌then◌else◌}
 use Rattle.csyn.specs.declared.token.Token.{Token}
 use Rattle.csyn.specs.declared.punctuator.Punctuator.TheVariants as punctuator
 use Rattle.cgrammar.specs.declared.kind.Kind.{Kind}
@@ -104,7 +104,10 @@ unfoldable pub barred_of : Written → List Terminal
 barred_of (leaf _) = []
 barred_of (node p _) = barred p
 
--- the next token doesn't go on with its last part
+-- the token doesn't go on with its last part
+abbrev pub may_end : Production → Kind → Bool
+may_end p kind = not (any_accepts (barred p) kind)
+
 abbrev pub Ends : Written → Kind → Type 0
 Ends w kind = not (any_accepts (barred_of w) kind) ≡ true
 
@@ -120,7 +123,7 @@ symbols_of (Some rule) = rule.symbols
 unfoldable pub inner : Kind → List Symbol
 inner kind = symbols_of (choose (rules part.Unary) kind)
 
--- It is read from behind its first token on, as a unary expression; and what begins with a parenthesis goes on with an expression.
+-- It is read from behind its first token on, as a unary expression; and if that is a parenthesis, an expression stands behind it.
 pub record Behind (w : Written) : Type 0 where
   pub first : Token
   pub rest : List Token
@@ -128,7 +131,8 @@ pub record Behind (w : Written) : Type 0 where
   pub inside : accepts (sign punctuator.LeftParenthesis) (kind_of first) ≡ true → (next : Token) (tokens : List Token)
       → Begins starts_expression (rest ++ next ∷ tokens)
   pub reads : (symbols : List Symbol) (values : List Written) (next : Token) (tokens : List Token) → Ends w (kind_of next)
-      → Reaches (at (inner (kind_of first) ++ symbols) (leaf first ∷ values) (rest ++ next ∷ tokens)) (at (tail_of w ++ symbols) (w ∷ values) (next ∷ tokens))
+      → Reaches (at (inner (kind_of first) ++ symbols) (leaf first ∷ values) (rest ++ next ∷ tokens)) (at (tail_of w ++ symbols) (w ∷ values)
+      (next ∷ tokens))
 
 -- What is known of an expression: that it is read where one of its level or a looser one is wanted, with what is left then.
 pub record Heads (w : Written) : Type 0 where

@@ -1,18 +1,16 @@
 -- What is known of a tree makes it read as each class of which it is.
-use Rattle.std.proofs.Common.{◌≡◌, ℕ, zero, suc, ◌+◌, ◌<◌, ◌≤◌, Bool, true, false, not, ◌||◌, ◌⊎◌, nat_eq, nat_le, List, [], ◌∷◌, ◌++◌, length, refl, sym, ap, subst, inl, inr, true≢false, arith, lit<}
-use Rattle.std.proofs.lemmas.Bool.{or_cases, eqb-true, leb-true, le-leb, ne_eqb, cases_Bool, cases_lt}
-use Rattle.csyn.specs.declared.token.Token.{Token}
+use Rattle.std.proofs.Common.{◌≡◌, ℕ, ◌+◌, ◌<◌, ◌≤◌, Bool, true, false, ◌||◌, ◌⊎◌, nat_eq, nat_le, [], ◌∷◌, refl, sym, subst, inl, inr, true≢false, arith, lit<}
+use Rattle.std.proofs.lemmas.Bool.{or_cases, eqb-true, leb-true, le-leb, ne_eqb, cases_lt}
 use Rattle.cgrammar.specs.declared.production.Production.{Production}
 use Rattle.cgrammar.specs.declared.production.Words.{Words}
 use Rattle.cgrammar.specs.declared.production.Words.TheVariants as every_word
-use Rattle.cgrammar.specs.declared.part.Symbol.{Symbol}
 use Rattle.cgrammar.specs.Kind.{kind_of}
 use Rattle.cgrammar.specs.Grammar as class
 use Rattle.cgrammar.specs.Grammar.{Class, under, home, class_number, words_number, is_wider}
 use Rattle.cgrammar.specs.Text.{Written, leaf, node, Forest, Stands}
-use Rattle.creader.specs.Machine.{at, Reaches}
+use Rattle.creader.specs.Machine.{at}
 use Rattle.creader.proofs.Complete.Reading.{Reads, reader, has_reader, level_reader, chain_of, chain_part, follow, allows, is_statement}
-use Rattle.creader.proofs.Complete.Heads.{Heads, Known, known_as, is_expression, is_level, level_of, levels_of, left, left_numbers, tail_symbol, is_name_node, is_bare_name, barred_of}
+use Rattle.creader.proofs.Complete.Heads.{Heads, Known, known_as, is_expression, is_level, level_of, levels_of, left, left_numbers, is_name_node, is_bare_name, barred_of}
 use Rattle.creader.proofs.Complete.Steps.{join}
 use Rattle.creader.proofs.Complete.Expressions.Tails.{allowed, expression-ends, expression-level, gone-reaches, left-gone}
 
@@ -55,8 +53,23 @@ no_chain : (n : ℕ) → 15 ≤ n → level_reader n ≡ []
 unfolding level_reader chain_of chain_part
 no_chain n l =
     let no : (k : ℕ) → k < 15 → nat_eq n k ≡ false = λ k b. ne_eqb n k (λ e. absurd (omega arith)) in
-    rw (no 0 (lit< tt), no 1 (lit< tt), no 2 (lit< tt), no 13 (lit< tt), no 14 (lit< tt), no 3 (lit< tt), no 4 (lit< tt), no 5 (lit< tt), no 6 (lit< tt),
-      no 7 (lit< tt), no 8 (lit< tt), no 9 (lit< tt), no 10 (lit< tt), no 11 (lit< tt), no 12 (lit< tt)) refl
+    rw (
+      no 0 (lit< tt),
+      no 1 (lit< tt),
+      no 2 (lit< tt),
+      no 13 (lit< tt),
+      no 14 (lit< tt),
+      no 3 (lit< tt),
+      no 4 (lit< tt),
+      no 5 (lit< tt),
+      no 6 (lit< tt),
+      no 7 (lit< tt),
+      no 8 (lit< tt),
+      no 9 (lit< tt),
+      no 10 (lit< tt),
+      no 11 (lit< tt),
+      no 12 (lit< tt),
+    ) refl
 
 pub level-reader : (n : ℕ) → has_reader (class.level n) ≡ true → n < 15
 unfolding has_reader reader
@@ -67,17 +80,18 @@ level-reader n h = go (cases_lt n 15)
     go (inr l) = absurd (true≢false (sym (rw (no_chain n l) at h)))
 
 -- a token that may stand behind an expression of level n: what has been left goes away
-pub heads-reads : (w : Written) (n : ℕ) → Heads w → Stands (class.part (class.level n)) w → has_reader (class.level n) ≡ true → Reads (class.level n) w
+pub heads-reads : (w : Written) (n : ℕ) → Heads w → Stands (class.part (class.level n)) w → has_reader (class.level n) ≡ true
+    → Reads (class.level n) w
 unfolding reader follow allows is_statement left levels_of is_name_node barred_of is_expression allowed
 heads-reads (leaf t) n h s r = absurd s
 heads-reads (node p f) n h s r = record {
   reads = λ symbols values next tokens may.
-    let l : n ≤ level_of (home p) = level-under (home p) n s in
-    let e : is_expression p ≡ true = under-level (home p) n s in
-    let b : n < 15 = level-reader n r in
-    join (h.heads n (le-leb _ _ l) (le-leb n 14 (omega arith)) symbols values next tokens (expression-ends p n (kind_of next) e l may))
+      let l : n ≤ level_of (home p) = level-under (home p) n s in
+      let e : is_expression p ≡ true = under-level (home p) n s in
+      let b : n < 15 = level-reader n r in
+      join (h.heads n (le-leb _ _ l) (le-leb n 14 (omega arith)) symbols values next tokens (expression-ends p n (kind_of next) e l may))
       (gone-reaches (left_numbers n (level_of (home p)) (is_bare_name p)) symbols (node p f ∷ values) next tokens
-        (left-gone n (level_of (home p)) (is_bare_name p) (kind_of next) b (omega (arith, expression-level p e)) (le-leb _ _ l) may))
+      (left-gone n (level_of (home p)) (is_bare_name p) (kind_of next) b (omega (arith, expression-level p e)) (le-leb _ _ l) may));
 }
 
 -- what is known of an expression
@@ -108,13 +122,14 @@ only_levels class.callee class.callee e u r = absurd (true≢false (sym r))
 only_levels class.callee _ e u r = absurd (true≢false (sym u))
 only_levels _ _ e u r = absurd (true≢false (sym e))
 
-known_as_reads : (b : Bool) (p : Production) (f : Forest) (c : Class) → is_expression p ≡ b → known_as b p (node p f) → under (home p) c ≡ true → has_reader c ≡ true
+known_as_reads : (b : Bool) (p : Production) (f : Forest) (c : Class) → is_expression p ≡ b → known_as b p (node p f) → under (home p) c ≡ true
+    → has_reader c ≡ true
     → Reads c (node p f)
 unfolding known_as is_expression
 known_as_reads true p f c e known s r =
     let (n, same) = only_levels (home p) c e s r in
     subst (λ d. Reads d (node p f)) (sym same)
-      (heads-reads (node p f) n known (subst (λ d. under (home p) d ≡ true) same s) (subst (λ d. has_reader d ≡ true) same r))
+    (heads-reads (node p f) n known (subst (λ d. under (home p) d ≡ true) same s) (subst (λ d. has_reader d ≡ true) same r))
 known_as_reads false p f c e known s r = known c s r
 
 -- the same from what is known of any tree

@@ -1,9 +1,8 @@
 -- How a parameter is read: its stars one by one, its name, and whether empty brackets stand behind it.
-use Rattle.std.specs.Prelude.{◌≡◌, Bool, true, false, not, ◌||◌, ◌&&◌, List, [], ◌∷◌, ◌++◌}
+use Rattle.std.specs.Prelude.{◌≡◌, Bool, true, false, not, List, [], ◌∷◌, ◌++◌}
 use Rattle.std.proofs.Common.{refl, append_assoc}
-use Rattle.std.proofs.lemmas.Bool.{and_from, and_parts, both_ways, not_from_false}
+use Rattle.std.proofs.lemmas.Bool.{both_ways, not_from_false}
 use Rattle.csyn.specs.declared.token.Token.{Token}
-use Rattle.csyn.specs.declared.keyword.Keyword.TheVariants as keyword
 use Rattle.csyn.specs.declared.punctuator.Punctuator.TheVariants as punctuator
 use Rattle.cgrammar.specs.declared.kind.Kind.{Kind}
 use Rattle.cgrammar.specs.declared.production.Production.TheVariants as make
@@ -14,20 +13,19 @@ use Rattle.cgrammar.specs.declared.part.Symbol.{Symbol}
 use Rattle.cgrammar.specs.declared.part.Symbol.TheVariants as symbol
 use Rattle.cgrammar.specs.Kind.{kind_of}
 use Rattle.cgrammar.specs.Terminal.{accepts}
-use Rattle.cgrammar.specs.Rules.{any_accepts}
 use Rattle.cgrammar.specs.Grammar as class
 use Rattle.cgrammar.specs.Grammar.{Piece, template, home}
-use Rattle.cgrammar.specs.Text.{Written, leaf, node, Forest, none, more, IsProper, Match, Stands, spell, spells}
+use Rattle.cgrammar.specs.Text.{Written, leaf, node, Forest, none, more, Match, spell, spells}
 use Rattle.creader.specs.Machine.{at, Reaches, reduce}
-use Rattle.creader.proofs.Complete.Reading.{reader, follow, allows, is_statement, has_reader, Reads}
+use Rattle.creader.proofs.Complete.Reading.{reader, has_reader, Reads}
 use Rattle.creader.proofs.Complete.Heads.{Known, AllKnown}
 use Rattle.creader.proofs.Complete.KnownReads.{known-reads}
-use Rattle.creader.proofs.Complete.Steps.{join, take-step, reduce-step, push}
+use Rattle.creader.proofs.Complete.Steps.{join, reduce-step, push}
 use Rattle.creader.proofs.Complete.Firsts.{sign, may_begin, Begins, begins-as, forest-begins, no}
 use Rattle.creader.proofs.Complete.Sequence.{may_follow, reads-before, reads-from, readers, ends_open, fits, child-may, sequence-reads}
-use Rattle.creader.proofs.Complete.Plain.{after_of, ready, ready_check, node-after, expanded}
+use Rattle.creader.proofs.Complete.Plain.{after_of, ready_check, node-after}
 use Rattle.creader.proofs.Complete.Rule.{rule_check, rule_shape, Chosen, part-take, part-stay, stay-at, made-step, back-reduce, back-accepts, back-take-token, back-take, back-stay, hungry, no-tokens, refuse_check, refused}
-use Rattle.creader.proofs.Complete.Pointers.{is_star, is_qualifier, not_qualifier, not_star, stars-pointers, pointers-first, Starred, stars-tail, stars-end, parameter-tail, stars-read}
+use Rattle.creader.proofs.Complete.Pointers.{is_star, is_qualifier, not_qualifier, not_star, pointers-first, stars-tail, stars-end, parameter-tail}
 
 abbrev pub is_bracket : Kind → Bool
 is_bracket = accepts (sign punctuator.LeftBracket)
@@ -114,6 +112,7 @@ end-join symbols values others (y ∷ tokens) left reached = go (is_bracket (kin
         closing true b = absurd (refused (one_length ++ ended) symbols (leaf y ∷ values) others is_closing z tokens left refl b inside)
         closing false b =
             join (part-stay part.ParameterLength (λ k. not (is_closing k)) _ symbols (leaf y ∷ values) z tokens length-other (not_from_false _ b)) inside
+
     go : (b : Bool) → is_bracket (kind_of y) ≡ b → Reaches (at (symbol.Read part.ParameterEnd ∷ symbols) values (y ∷ tokens)) (at symbols others left)
     go true b =
         join (part-take part.ParameterEnd is_bracket _ symbols values y tokens end-bracket b)
@@ -138,17 +137,18 @@ name-join symbols values others x tokens left s reached =
 -- a star, and what stands behind it
 star-join : (symbols : List Symbol) (values others : List Written) (x : Token) (tokens left : List Token) → is_star (kind_of x) ≡ true
     → ((values : List Written) → Reaches (at (symbol.Read part.StarsTail ∷ named ++ symbols) values tokens) (at symbols others left)
-      → Reaches (at (symbol.Read part.ParameterTail ∷ symbols) values tokens) (at symbols others left))
+    → Reaches (at (symbol.Read part.ParameterTail ∷ symbols) values tokens) (at symbols others left))
     → Reaches (at (symbol.Read part.StarsTail ∷ named ++ symbols) values (x ∷ tokens)) (at symbols others left)
     → Reaches (at (symbol.Read part.ParameterTail ∷ symbols) values (x ∷ tokens)) (at symbols others left)
 unfolding hungry
 star-join symbols values others x [] left s again reached =
     absurd (no-tokens (symbol.Read part.AfterStar ∷ named) symbols (leaf x ∷ values) others left refl
-      (back-take named symbols values others left part.StarsTail is_star _ x [] stars-tail.starred s reached))
+    (back-take named symbols values others left part.StarsTail is_star _ x [] stars-tail.starred s reached))
 star-join symbols values others x (y ∷ tokens) left s again reached = go (is_qualifier (kind_of y)) refl
   where
     inside : Reaches (at (symbol.Read part.AfterStar ∷ named ++ symbols) (leaf x ∷ values) (y ∷ tokens)) (at symbols others left)
     inside = back-take named symbols values others left part.StarsTail is_star _ x (y ∷ tokens) stars-tail.starred s reached
+
     go : (q : Bool) → is_qualifier (kind_of y) ≡ q → Reaches (at (symbol.Read part.ParameterTail ∷ symbols) values (x ∷ y ∷ tokens)) (at symbols others left)
     go true q =
         join (part-take part.ParameterTail is_star _ symbols values x (y ∷ tokens) parameter-tail.starred s)
@@ -160,7 +160,7 @@ star-join symbols values others x (y ∷ tokens) left s again reached = go (is_q
         (join (part-stay part.ParameterAfterStar not_qualifier _ symbols (leaf x ∷ values) y tokens parameter-tail.bare (not_from_false _ q))
         (join (reduce-step make.Star (symbol.Read part.ParameterTail ∷ symbols) (leaf x ∷ values) (y ∷ tokens))
         (again (reduce make.Star (leaf x ∷ values))
-          (back-reduce (symbol.Read part.StarsTail ∷ named) symbols (leaf x ∷ values) others left make.Star (y ∷ tokens) stay))))
+        (back-reduce (symbol.Read part.StarsTail ∷ named) symbols (leaf x ∷ values) others left make.Star (y ∷ tokens) stay))))
 
 -- Stars and a name, as if the stars were read by themselves.
 tail-join : (symbols : List Symbol) (values others : List Written) (tokens left : List Token)
@@ -173,7 +173,7 @@ tail-join symbols values others (x ∷ tokens) left reached =
   where
     ways : (symbols : List Symbol) (values others : List Written) (x : Token) (tokens left : List Token)
         → ((values : List Written) → Reaches (at (symbol.Read part.StarsTail ∷ named ++ symbols) values tokens) (at symbols others left)
-          → Reaches (at (symbol.Read part.ParameterTail ∷ symbols) values tokens) (at symbols others left))
+        → Reaches (at (symbol.Read part.ParameterTail ∷ symbols) values tokens) (at symbols others left))
         → Reaches (at (symbol.Read part.StarsTail ∷ named ++ symbols) values (x ∷ tokens)) (at symbols others left)
         → Reaches (at (symbol.Read part.ParameterTail ∷ symbols) values (x ∷ tokens)) (at symbols others left)
     ways symbols values others x tokens left again reached = go (is_star (kind_of x)) refl
@@ -192,21 +192,21 @@ pointers-join symbols values others (x ∷ tokens) left reached =
     let stay = back-stay named symbols values others left part.Pointers (λ _. true) _ x tokens pointers-first refl reached in
     join (reduce-step make.NoPointers (symbol.Read part.ParameterTail ∷ symbols) values (x ∷ tokens))
     (tail-join symbols (reduce make.NoPointers values) others (x ∷ tokens) left
-      (back-reduce (symbol.Read part.StarsTail ∷ named) symbols values others left make.NoPointers (x ∷ tokens) stay))
+    (back-reduce (symbol.Read part.StarsTail ∷ named) symbols values others left make.NoPointers (x ∷ tokens) stay))
 
 -- the type of a parameter
 pub type-front : (pieces : List Piece) (ty : Written) (g : Forest) (after : Kind → Bool) (symbols : List Symbol) (values : List Written) (tokens : List Token)
     → fits (class.part class.«type» ∷ pieces) after ≡ true → ends_open (class.part class.«type» ∷ pieces) ≡ false
     → Match (class.part class.«type» ∷ pieces) (more ty g) → Known ty → Begins after tokens
     → Reaches (at (symbol.Read part.Parameter ∷ symbols) values ((spell ty ++ spells g) ++ tokens))
-      (at (symbol.Reduce make.NoPointers ∷ symbol.Read part.ParameterTail ∷ symbols) (ty ∷ values) (spells g ++ tokens))
+    (at (symbol.Reduce make.NoPointers ∷ symbol.Read part.ParameterTail ∷ symbols) (ty ∷ values) (spells g ++ tokens))
 unfolding has_reader reader Match
 type-front pieces ty g after symbols values tokens h o m known b =
     let may = child-may class.«type» pieces ty g after tokens h m b (λ e. absurd (both_ways _ o e)) in
     let r = known-reads ty class.«type» known m.0 refl in
     let first = stay-at part.Parameter (λ _. true) _ symbols values ((spell ty ++ spells g) ++ tokens) parameter-first
-        (begins-as (may_begin (class.part class.«type» ∷ pieces) after) (λ _. true) ((spell ty ++ spells g) ++ tokens) (λ _ _. refl)
-          (forest-begins (more ty g) (class.part class.«type» ∷ pieces) m after tokens b)) in
+    (begins-as (may_begin (class.part class.«type» ∷ pieces) after) (λ _. true) ((spell ty ++ spells g) ++ tokens) (λ _ _. refl)
+    (forest-begins (more ty g) (class.part class.«type» ∷ pieces) m after tokens b)) in
     join first (rw append_assoc (reads-before class.«type» ty r (symbol.Reduce make.NoPointers ∷ symbol.Read part.ParameterTail ∷ symbols) values (spells g ++ tokens) may))
 
 parameter-fits : fits (template make.Parameter) (after_of make.Parameter) ≡ true
@@ -223,4 +223,4 @@ parameter-reads (more ty g) m known = reads-from class.parameter (node make.Para
     let others = sequence-reads pieces g (after_of make.Parameter) (symbol.Reduce make.Parameter ∷ symbols) (ty ∷ values) tokens refl m.3 known.1 b' (λ e. absurd (no e)) in
     join (type-front pieces ty g (after_of make.Parameter) symbols values tokens parameter-fits refl m known.0 b')
     (pointers-join symbols (ty ∷ values) (w ∷ values) (spells g ++ tokens) tokens
-      (join others (made-step make.Parameter (more ty g) symbols values tokens m))))
+    (join others (made-step make.Parameter (more ty g) symbols values tokens m))))

@@ -1,7 +1,7 @@
 -- How parameters are read: a void alone, and those whose names have stars before them.
 use Rattle.std.specs.Prelude.{◌≡◌, Bool, true, false, not, ◌||◌, ◌&&◌, List, [], ◌∷◌, ◌++◌}
-use Rattle.std.proofs.Common.{refl, append_assoc}
-use Rattle.std.proofs.lemmas.Bool.{and_from, and_parts, not_from_false}
+use Rattle.std.proofs.Common.{refl}
+use Rattle.std.proofs.lemmas.Bool.{and_from, not_from_false}
 use Rattle.csyn.specs.declared.token.Token.{Token}
 use Rattle.csyn.specs.declared.keyword.Keyword.TheVariants as keyword
 use Rattle.csyn.specs.declared.punctuator.Punctuator.TheVariants as punctuator
@@ -17,17 +17,15 @@ use Rattle.cgrammar.specs.Terminal.{accepts}
 use Rattle.cgrammar.specs.Rules.{any_accepts}
 use Rattle.cgrammar.specs.Grammar as class
 use Rattle.cgrammar.specs.Grammar.{template, home}
-use Rattle.cgrammar.specs.Text.{Written, leaf, node, Forest, none, more, IsProper, Match, Stands, spell, spells}
-use Rattle.creader.specs.Machine.{at, Reaches, reduce}
-use Rattle.creader.proofs.Complete.Reading.{reader, follow, allows, is_statement, has_reader, Reads}
+use Rattle.cgrammar.specs.Text.{Written, leaf, node, Forest, none, more, Match}
+use Rattle.creader.specs.Machine.{at, Reaches}
+use Rattle.creader.proofs.Complete.Reading.{reader, follow, allows, is_statement, Reads}
 use Rattle.creader.proofs.Complete.Heads.{AllKnown}
-use Rattle.creader.proofs.Complete.KnownReads.{known-reads}
-use Rattle.creader.proofs.Complete.Steps.{join, take-step, reduce-step, push}
-use Rattle.creader.proofs.Complete.Firsts.{sign, word, Begins, begins-as}
-use Rattle.creader.proofs.Complete.Sequence.{may_follow, reads-before, reads-from, readers, fits, child-may, sequence-reads}
-use Rattle.creader.proofs.Complete.Plain.{after_of, ready, ready_check, node-after, expanded}
-use Rattle.creader.proofs.Complete.Rule.{rule_check, rule_shape, Chosen, part-take, part-stay, stay-at, made-step, back-reduce, back-accepts, back-take-token, back-take, back-stay, hungry, no-tokens, refuse_check, refused}
-use Rattle.creader.proofs.Complete.Pointers.{is_star, is_qualifier, not_qualifier, not_star, Starred, stars-tail, stars-end, parameter-tail, stars-read}
+use Rattle.creader.proofs.Complete.Steps.{join, push}
+use Rattle.creader.proofs.Complete.Firsts.{sign, word, begins-as}
+use Rattle.creader.proofs.Complete.Sequence.{may_follow, reads-from, readers}
+use Rattle.creader.proofs.Complete.Plain.{ready_check, expanded}
+use Rattle.creader.proofs.Complete.Rule.{rule_check, rule_shape, Chosen, part-take, part-stay, stay-at, made-step, back-take, back-stay, hungry, no-tokens, refuse_check, refused}
 
 abbrev is_void : Kind → Bool
 is_void = accepts (word keyword.Void)
@@ -104,7 +102,7 @@ void-reads (more w (more v f)) m = absurd m.3
 void-reads (more (leaf x) none) m = reads-from class.parameters (node make.VoidParameters (more (leaf x) none)) (λ symbols values tokens b.
     join (part-take part.Parameters is_void _ symbols values x tokens parameters-void m.0)
     (join (stay-at part.AfterVoid is_right _ symbols (leaf x ∷ values) tokens void-right
-        (begins-as (may_follow class.parameters (node make.VoidParameters (more (leaf x) none))) is_right tokens (right-may _) b))
+    (begins-as (may_follow class.parameters (node make.VoidParameters (more (leaf x) none))) is_right tokens (right-may _) b))
     (made-step make.VoidParameters (more (leaf x) none) symbols values tokens m)))
 
 -- from void on
@@ -147,7 +145,7 @@ parameters-join symbols values others (x ∷ tokens) left reached = go (is_right
     go false true e e' = void-join symbols values others x tokens left e' reached
     go false false e e' =
         join (part-stay part.Parameters (λ k. not (is_right k) && not (is_void k)) _ symbols values x tokens parameters-other
-          (and_from _ _ (not_from_false _ e) (not_from_false _ e'))) reached
+        (and_from _ _ (not_from_false _ e) (not_from_false _ e'))) reached
 
 -- one parameter and more of them
 pub some-reads : (f : Forest) → Match (template make.SomeParameters) f → AllKnown f → Reads class.parameters (node make.SomeParameters f)

@@ -1,9 +1,8 @@
 -- The productions whose class is read by one part, of which a rule reads the right side as it stands.
 use Rattle.std.specs.Prelude.{◌≡◌, ℕ, Bool, true, false, not, ◌||◌, ◌&&◌, nat_eq, List, [], ◌∷◌, ◌++◌, Option, Some, None, if◌then◌else◌}
 use Rattle.std.proofs.Common.{refl, sym, ap, ◌∙◌, append_assoc}
-use Rattle.std.proofs.lemmas.Bool.{and_parts, or_cases, or_left, or_right}
+use Rattle.std.proofs.lemmas.Bool.{and_parts}
 use Rattle.csyn.specs.declared.token.Token.{Token}
-use Rattle.csyn.specs.declared.operator.BinaryOperator.TheVariants as operator
 use Rattle.cgrammar.specs.declared.kind.Kind.{Kind}
 use Rattle.cgrammar.specs.declared.kind.Kind.TheVariants as kind
 use Rattle.cgrammar.specs.declared.production.Production.{Production}
@@ -19,8 +18,8 @@ use Rattle.cgrammar.specs.Kind.{kind_of}
 use Rattle.cgrammar.specs.Terminal.{accepts, keyword_number, punctuator_number}
 use Rattle.cgrammar.specs.Rules.{Rule, rules, choose, any_accepts}
 use Rattle.cgrammar.specs.Grammar as class
-use Rattle.cgrammar.specs.Grammar.{Class, Piece, token, part, template, home}
-use Rattle.cgrammar.specs.Text.{Written, leaf, node, Forest, none, more, IsProper, Match, spell, spells, dangles, last_dangles, ends_with_statement, is_if_without_else}
+use Rattle.cgrammar.specs.Grammar.{Piece, token, part, template, home}
+use Rattle.cgrammar.specs.Text.{Written, leaf, node, Forest, Match, spells, dangles, last_dangles, ends_with_statement, is_if_without_else}
 use Rattle.creader.specs.Machine.{State, at, Reaches, step}
 use Rattle.creader.proofs.Complete.Reading.{reader, level_reader, follow, allows, extenders, operators_from, is_statement, has_reader, Reads}
 use Rattle.creader.proofs.Complete.Heads.{AllKnown}
@@ -85,7 +84,7 @@ expanded p f h m known symbols values tokens b =
     let made = reduce-step p symbols (push f values) tokens in
     join
     (sequence-reads (template p) f (after_of p) (symbol.Reduce p ∷ symbols) values tokens both.0 m known
-      (begins-as (may_follow (home p) (node p f)) (after_of p) tokens (node-after p f) b) (node-ends p f tokens both.1 b))
+    (begins-as (may_follow (home p) (node p f)) (after_of p) tokens (node-after p f) b) (node-ends p f tokens both.1 b))
     (rw (reduce-push p f values m) at made)
 
 -- its class is read by one part, and the rule of that part is its right side
@@ -249,12 +248,14 @@ plain-reads p f plain m known = reads-from (home p) (node p f) (λ symbols value
     let whole = expanded p f is_ready m known symbols values tokens b in
     let b' = begins-as (may_follow (home p) (node p f)) (after_of p) tokens (node-after p f) b in
     rw same (go symbols values (node p f ∷ values) tokens (spells f ++ tokens)
-      (forest-begins f (template p) m (after_of p) tokens b') whole))
+    (forest-begins f (template p) m (after_of p) tokens b') whole))
   where
     is_ready : ready p ≡ true
     is_ready = (and_parts (ready p) (agrees (plain_part p) (template p) (after_of p) (plain_index p)) (rw plain at (plain-holds p))).0
+
     same : reader (home p) ≡ symbol.Read (plain_part p) ∷ []
     same = rw plain at (plain-reader p)
+
     go : (symbols : List Symbol) (values : List Written) (others : List Written) (left tokens : List Token)
         → Begins (may_begin (template p) (after_of p)) tokens
         → Reaches (at (readers (template p) ++ symbol.Reduce p ∷ symbols) values tokens) (at symbols others left)

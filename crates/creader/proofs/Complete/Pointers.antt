@@ -1,7 +1,6 @@
 -- How pointers are read: those without qualifiers, and those with some.
-use Rattle.std.specs.Prelude.{◌≡◌, Bool, true, false, not, ◌||◌, ◌&&◌, ◌⊎◌, List, [], ◌∷◌, ◌++◌}
-use Rattle.std.proofs.Common.{refl, sym, ap, ◌∙◌, inl, inr, append_assoc}
-use Rattle.std.proofs.lemmas.Bool.{and_from, not_from_false}
+use Rattle.std.specs.Prelude.{◌≡◌, Bool, true, false, not, ◌||◌, ◌⊎◌, List, [], ◌∷◌, ◌++◌}
+use Rattle.std.proofs.Common.{refl, inl, inr, append_assoc}
 use Rattle.csyn.specs.declared.token.Token.{Token}
 use Rattle.csyn.specs.declared.punctuator.Punctuator.TheVariants as punctuator
 use Rattle.cgrammar.specs.declared.kind.Kind.{Kind}
@@ -17,13 +16,13 @@ use Rattle.cgrammar.specs.Kind.{kind_of}
 use Rattle.cgrammar.specs.Terminal.{accepts, keyword_number, punctuator_number}
 use Rattle.cgrammar.specs.Rules.{any_accepts}
 use Rattle.cgrammar.specs.Grammar as class
-use Rattle.cgrammar.specs.Grammar.{Class, template, home, under, is_wider, class_number, words_number, operator_level, assignment_class, alone, joined}
+use Rattle.cgrammar.specs.Grammar.{template, home, under, is_wider, class_number, words_number, operator_level, assignment_class, alone, joined}
 use Rattle.cgrammar.specs.Text.{Written, leaf, node, Forest, none, more, IsProper, Match, Stands, spell, spells}
 use Rattle.creader.specs.Machine.{at, Reaches}
 use Rattle.creader.proofs.Complete.Reading.{reader, follow, allows, is_statement, has_reader, Reads}
 use Rattle.creader.proofs.Complete.KnownReads.{known-reads}
 use Rattle.creader.proofs.Complete.Kinds.{kinds, each, every_kind, at-kind}
-use Rattle.creader.proofs.Complete.Steps.{join, take-step, reduce-step, push}
+use Rattle.creader.proofs.Complete.Steps.{join, push}
 use Rattle.creader.proofs.Complete.Productions.{productions, kept, makers, In, in-makers}
 use Rattle.creader.proofs.Complete.Firsts.{sign, Begins, begins-as, implied, no, may_begin, forest-begins}
 use Rattle.creader.proofs.Complete.Sequence.{may_follow, reads-before, reads-from}
@@ -60,14 +59,14 @@ pub stars-tail : Starred part.StarsTail part.AfterStar
 unfolding rule_check rule_shape
 stars-tail = record {
   starred = record { index = 0; checked = refl; found = refl };
-  bare = record { index = 1; checked = refl; found = refl }
+  bare = record { index = 1; checked = refl; found = refl };
 }
 
 pub parameter-tail : Starred part.ParameterTail part.ParameterAfterStar
 unfolding rule_check rule_shape
 parameter-tail = record {
   starred = record { index = 0; checked = refl; found = refl };
-  bare = record { index = 1; checked = refl; found = refl }
+  bare = record { index = 1; checked = refl; found = refl };
 }
 
 star-no-qualifier : (kind : Kind) → is_star kind ≡ true → not_qualifier kind ≡ true
@@ -155,14 +154,14 @@ stars-marked : Marked part.StarsTail part.AfterStar
 unfolding rule_check rule_shape
 stars-marked = record {
   starred = record { index = 0; checked = refl; found = refl };
-  marked = record { index = 0; checked = refl; found = refl }
+  marked = record { index = 0; checked = refl; found = refl };
 }
 
 pointers-marked : Marked part.PointersTail part.AfterNextStar
 unfolding rule_check rule_shape
 pointers-marked = record {
   starred = record { index = 0; checked = refl; found = refl };
-  marked = record { index = 0; checked = refl; found = refl }
+  marked = record { index = 0; checked = refl; found = refl };
 }
 
 next-star : Chosen part.AfterNextStar not_qualifier move.Stay (symbol.Reduce make.NextPointer ∷ symbol.Read part.PointersTail ∷ [])
@@ -182,7 +181,7 @@ marked-reads : (tail after : Part) → Marked tail after → (c : Written) (x q 
     → Match (template make.QualifiedPointer) (more c (more (leaf x) (more (leaf q) (more d none)))) → Deep d
     → (symbols : List Symbol) (values : List Written) (tokens : List Token) → Begins not_qualifier tokens
     → Reaches (at (symbol.Read tail ∷ symbols) (c ∷ values) (x ∷ q ∷ spell d ++ tokens))
-      (at (symbol.Read part.PointersTail ∷ symbols) (node make.QualifiedPointer (more c (more (leaf x) (more (leaf q) (more d none)))) ∷ values) tokens)
+    (at (symbol.Read part.PointersTail ∷ symbols) (node make.QualifiedPointer (more c (more (leaf x) (more (leaf q) (more d none)))) ∷ values) tokens)
 unfolding template Match push has_reader reader
 marked-reads tail after s c x q d m deep symbols values tokens b =
     let left = symbol.Reduce make.QualifiedPointer ∷ symbol.Read part.PointersTail ∷ symbols in
@@ -190,14 +189,14 @@ marked-reads tail after s c x q d m deep symbols values tokens b =
     join (part-take tail is_star _ symbols (c ∷ values) x (q ∷ spell d ++ tokens) s.starred m.3.0)
     (join (part-take after is_qualifier _ symbols (leaf x ∷ c ∷ values) q (spell d ++ tokens) s.marked m.3.3.0)
     (join (reads-before class.qualifiers d r left (leaf q ∷ leaf x ∷ c ∷ values) tokens
-        (begins-as not_qualifier (may_follow class.qualifiers d) tokens (qualifiers-may d) b))
+    (begins-as not_qualifier (may_follow class.qualifiers d) tokens (qualifiers-may d) b))
     (made-step make.QualifiedPointer (more c (more (leaf x) (more (leaf q) (more d none)))) (symbol.Read part.PointersTail ∷ symbols) values tokens m)))
 
 -- a star behind qualifiers
 next-reads : (c : Written) (x : Token) → Match (template make.NextPointer) (more c (more (leaf x) none))
     → (symbols : List Symbol) (values : List Written) (tokens : List Token) → Begins not_qualifier tokens
     → Reaches (at (symbol.Read part.PointersTail ∷ symbols) (c ∷ values) (x ∷ tokens))
-      (at (symbol.Read part.PointersTail ∷ symbols) (node make.NextPointer (more c (more (leaf x) none)) ∷ values) tokens)
+    (at (symbol.Read part.PointersTail ∷ symbols) (node make.NextPointer (more c (more (leaf x) none)) ∷ values) tokens)
 unfolding template Match push
 next-reads c x m symbols values [] b = absurd b
 next-reads c x m symbols values (y ∷ tokens) b =
@@ -218,11 +217,14 @@ qualifiers-read (node p g) x q d m ih deep symbols values tokens b = simp append
   where
     c : Written
     c = node p g
+
     behind : Begins not_qualifier (x ∷ q ∷ spell d ++ tokens)
     behind = star-no-qualifier (kind_of x) m.3.0
+
     Goal : Type 0
     Goal = Reaches (at (symbol.Reduce make.NoPointers ∷ symbol.Read part.StarsTail ∷ symbols) values (spell c ++ (x ∷ q ∷ spell d ++ tokens)))
         (at (symbol.Read part.PointersTail ∷ symbols) (node make.QualifiedPointer (more c (more (leaf x) (more (leaf q) (more d none)))) ∷ values) tokens)
+
     go : (under (home p) class.stars ≡ true) ⊎ (under (home p) class.qualified ≡ true) → Goal
     go (inl e) =
         join (stars-read part.StarsTail part.AfterStar stars-tail c e m.1 symbols values (x ∷ q ∷ spell d ++ tokens) behind)
@@ -282,7 +284,7 @@ pub pointers-read : (p : Production) (f : Forest) → under (home p) class.point
 unfolding reader IsProper Below
 pointers-read p f u m deep = reads-from class.pointers (node p f) (λ symbols values tokens b.
     join (stay-at part.Pointers (λ _. true) _ symbols values (spell (node p f) ++ tokens) pointers-first
-      (begins-as (may_begin (template p) (may_follow class.pointers (node p f))) (λ _. true) (spell (node p f) ++ tokens) (λ _ _. refl) (forest-begins f (template p) m (may_follow class.pointers (node p f)) tokens b)))
+    (begins-as (may_begin (template p) (may_follow class.pointers (node p f))) (λ _. true) (spell (node p f) ++ tokens) (λ _ _. refl) (forest-begins f (template p) m (may_follow class.pointers (node p f)) tokens b)))
     (go symbols values tokens b (pointers-ways p u)))
   where
     go : (symbols : List Symbol) (values : List Written) (tokens : List Token) → Begins (may_follow class.pointers (node p f)) tokens

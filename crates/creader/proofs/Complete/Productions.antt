@@ -1,5 +1,5 @@
 -- All productions, and which of them may stand where a class is wanted.
-use Rattle.std.specs.Prelude.{◌≡◌, ℕ, zero, suc, ◌+◌, ◌*◌, ◌⊎◌, Bool, true, false, List, [], ◌∷◌, Option, Some, None, if◌then◌else◌}
+use Rattle.std.specs.Prelude.{◌≡◌, ℕ, zero, suc, ◌+◌, ◌*◌, ◌⊎◌, Bool, true, false, List, [], ◌∷◌, Some, if◌then◌else◌}
 use Rattle.std.proofs.Common.{refl, inl, inr}
 use Rattle.csyn.specs.declared.operator.BinaryOperator.{BinaryOperator}
 use Rattle.csyn.specs.declared.operator.BinaryOperator.TheVariants as operator

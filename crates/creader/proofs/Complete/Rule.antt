@@ -16,9 +16,9 @@ use Rattle.cgrammar.specs.Terminal.{accepts, keyword_number, punctuator_number}
 use Rattle.cgrammar.specs.Grammar.{template}
 use Rattle.cgrammar.specs.Rules.{Rule, rules, words_rules, choose, any_accepts}
 use Rattle.cgrammar.specs.Text.{Written, leaf, node, Forest, Match}
-use Rattle.creader.specs.Machine.{State, at, Reaches, here, next, step, reduce}
+use Rattle.creader.specs.Machine.{at, Reaches, step, reduce}
 use Rattle.creader.proofs.Complete.Kinds.{entry, kinds, each, every_kind, at-kind}
-use Rattle.creader.proofs.Complete.Steps.{join, after-step, stuck, longer, read-step, take-step, reduce-step, chosen, choose-at, push, reduce-push}
+use Rattle.creader.proofs.Complete.Steps.{after-step, stuck, longer, read-step, reduce-step, chosen, choose-at, push, reduce-push}
 use Rattle.creader.proofs.Complete.Firsts.{Begins, implied, no}
 use Rattle.creader.proofs.Complete.Plain.{shape, shown}
 
@@ -178,14 +178,17 @@ refuse-reached (suc n) (symbol.Read p ∷ front) symbols values others x tokens 
   where
     Goes : Type 0
     Goes = (more : List Symbol) → refuse n more (kind_of x) ≡ true → Reaches (at (more ++ symbols) values (x ∷ tokens)) (at symbols others left) → ⊥
+
     differ : at (symbol.Read p ∷ front ++ symbols) values (x ∷ tokens) ≡ at symbols others left → ⊥
     differ = longer (symbol.Read p) front symbols
+
     stay : (rule : Rule) (act : Move) → choose (rules p) (kind_of x) ≡ Some rule → rule.move ≡ act
         → refuse n (stay_symbols act (rule.symbols ++ front)) (kind_of x) ≡ true → Goes → ⊥
     stay rule move.Take e m h again = refuse-none n (kind_of x) h
     stay rule move.Stay e m h again =
         again (rule.symbols ++ front) h
         (after-step {b = at ((rule.symbols ++ front) ++ symbols) values (x ∷ tokens)} (rw (e, m, append_assoc) refl) reached differ)
+
     go : (o : Option Rule) → choose (rules p) (kind_of x) ≡ o → (is_none o || refuse n (rule_symbols o front) (kind_of x)) ≡ true → Goes → ⊥
     go None e h again = stuck (rw e refl) reached differ
     go (Some rule) e h again = stay rule rule.move e refl h again

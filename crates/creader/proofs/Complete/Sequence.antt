@@ -1,25 +1,23 @@
 -- The parts of a right side are read one after another, when each is read by itself.
-use Rattle.std.specs.Prelude.{◌≡◌, ℕ, Bool, true, false, not, ◌||◌, ◌&&◌, ◌⊎◌, List, [], ◌∷◌, ◌++◌}
+use Rattle.std.specs.Prelude.{◌≡◌, Bool, true, false, not, ◌||◌, ◌&&◌, ◌⊎◌, List, [], ◌∷◌, ◌++◌}
 use Rattle.std.proofs.Common.{refl, append_assoc, inl, inr}
-use Rattle.std.proofs.lemmas.Bool.{and_parts, and_from, or_cases, or_left, or_right, not_from_false}
+use Rattle.std.proofs.lemmas.Bool.{and_parts, or_cases, or_left, or_right, not_from_false}
 use Rattle.csyn.specs.declared.token.Token.{Token}
 use Rattle.cgrammar.specs.declared.kind.Kind.{Kind}
 use Rattle.cgrammar.specs.declared.production.Production.{Production}
 use Rattle.cgrammar.specs.declared.production.Production.TheVariants as make
-use Rattle.cgrammar.specs.declared.terminal.Terminal.{Terminal}
 use Rattle.cgrammar.specs.declared.part.Symbol.{Symbol}
 use Rattle.cgrammar.specs.declared.part.Symbol.TheVariants as symbol
-use Rattle.cgrammar.specs.Kind.{kind_of}
 use Rattle.cgrammar.specs.Grammar as class
 use Rattle.cgrammar.specs.Grammar.{Class, Piece, token, part, template, home, under, is_wider, class_number, words_number, operator_level, assignment_class, alone, joined}
-use Rattle.cgrammar.specs.Text.{Written, leaf, node, Forest, none, more, IsProper, Match, Stands, spell, spells, dangles, last_dangles, begins_with_else, ends_with_statement, is_if_without_else}
-use Rattle.creader.specs.Machine.{State, at, Reaches, here}
+use Rattle.cgrammar.specs.Text.{Written, leaf, node, Forest, none, more, IsProper, Match, spell, spells, dangles, last_dangles, begins_with_else}
+use Rattle.creader.specs.Machine.{at, Reaches, here}
 use Rattle.creader.proofs.Complete.Reading.{reader, follow, allows, is_statement, has_reader, Reads}
-use Rattle.creader.proofs.Complete.Heads.{Known, AllKnown}
+use Rattle.creader.proofs.Complete.Heads.{AllKnown}
 use Rattle.creader.proofs.Complete.KnownReads.{known-reads}
 use Rattle.creader.proofs.Complete.Kinds.{every_kind, at-kind}
 use Rattle.creader.proofs.Complete.Productions.{productions, kept, makers, In, in-makers}
-use Rattle.creader.proofs.Complete.Steps.{join, take-step, reduce-step, push, reduce-push}
+use Rattle.creader.proofs.Complete.Steps.{join, take-step, push}
 use Rattle.creader.proofs.Complete.Firsts.{may_begin, Begins, begins-as, implied, no, forest-begins}
 
 abbrev pub may_follow : Class → Written → Kind → Bool
@@ -33,7 +31,7 @@ reads-before c w r symbols values (t ∷ tokens) b = r.reads symbols values t to
 
 pub reads-from : (c : Class) (w : Written)
     → ((symbols : List Symbol) (values : List Written) (tokens : List Token) → Begins (may_follow c w) tokens
-      → Reaches (at (reader c ++ symbols) values (spell w ++ tokens)) (at symbols (w ∷ values) tokens)) → Reads c w
+    → Reaches (at (reader c ++ symbols) values (spell w ++ tokens)) (at symbols (w ∷ values) tokens)) → Reads c w
 reads-from c w h = record { reads = λ symbols values next tokens b. h symbols values (next ∷ tokens) b }
 
 -- the symbols by which the pieces are read

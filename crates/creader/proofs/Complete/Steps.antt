@@ -1,6 +1,6 @@
 -- Steps of the reader, forwards and backwards.
-use Rattle.std.specs.Prelude.{◌≡◌, ℕ, zero, suc, ◌+◌, Bool, true, false, not, ◌||◌, nat_eq, List, [], ◌∷◌, ◌++◌, length, Option, Some, None, if◌then◌else◌}
-use Rattle.std.proofs.Common.{refl, sym, ap, ◌∙◌, arith, length-append}
+use Rattle.std.specs.Prelude.{◌≡◌, ℕ, suc, ◌+◌, Bool, true, false, nat_eq, List, [], ◌∷◌, ◌++◌, length, Some, None, if◌then◌else◌}
+use Rattle.std.proofs.Common.{refl, ap, arith, length-append}
 use Rattle.std.proofs.lemmas.Bool.{eqb-true}
 use Rattle.csyn.specs.declared.token.Token.{Token}
 use Rattle.cgrammar.specs.declared.kind.Kind.{Kind}
@@ -13,9 +13,9 @@ use Rattle.cgrammar.specs.Kind.{kind_of}
 use Rattle.cgrammar.specs.Terminal.{accepts}
 use Rattle.cgrammar.specs.Rules.{Rule, rules, choose, any_accepts}
 use Rattle.cgrammar.specs.Grammar.{Piece, template}
-use Rattle.cgrammar.specs.Text.{Written, leaf, node, Forest, none, more, Match, spells}
-use Rattle.creader.specs.Machine.{State, at, Reaches, here, next, step, follow_rule, moved, gather, reduce}
-use Rattle.creader.proofs.Complete.Kinds.{entry, every_kind, at-kind}
+use Rattle.cgrammar.specs.Text.{Written, leaf, node, Forest, none, more, Match}
+use Rattle.creader.specs.Machine.{State, at, Reaches, here, next, step, moved, gather, reduce}
+use Rattle.creader.proofs.Complete.Kinds.{entry}
 
 pub join : {a b c : State} → Reaches a b → Reaches b c → Reaches a c
 join here q = q

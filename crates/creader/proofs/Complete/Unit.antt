@@ -1,5 +1,5 @@
 -- How units are read: a unit of a structure, of a register, and any other, by what it begins with.
-use Rattle.std.specs.Prelude.{◌≡◌, Bool, true, false, not, ◌||◌, ◌&&◌, List, [], ◌∷◌, ◌++◌}
+use Rattle.std.specs.Prelude.{◌≡◌, Bool, true, false, not, ◌&&◌, List, [], ◌∷◌, ◌++◌}
 use Rattle.std.proofs.Common.{refl}
 use Rattle.std.proofs.lemmas.Bool.{and_from, not_from_false}
 use Rattle.csyn.specs.declared.token.Token.{Token}
@@ -97,11 +97,12 @@ volatile-join : (symbols : List Symbol) (values others : List Written) (x : Toke
 unfolding volatile-type hungry refuse_check
 volatile-join symbols values others x [] left v reached =
     absurd (no-tokens volatile-type symbols (leaf x ∷ values) others left refl
-      (back-take rest symbols values others left part.Type is_volatile _ x [] type-volatile v reached))
+    (back-take rest symbols values others left part.Type is_volatile _ x [] type-volatile v reached))
 volatile-join symbols values others x (y ∷ tokens) left v reached = go (is_register (kind_of y)) refl
   where
     inside : Reaches (at (volatile-type ++ symbols) (leaf x ∷ values) (y ∷ tokens)) (at symbols others left)
     inside = back-take rest symbols values others left part.Type is_volatile _ x (y ∷ tokens) type-volatile v reached
+
     go : (b : Bool) → is_register (kind_of y) ≡ b → Reaches (at (symbol.Read part.Unit ∷ symbols) values (x ∷ y ∷ tokens)) (at symbols others left)
     go true r = absurd (refused volatile-type symbols (leaf x ∷ values) others is_register y tokens left refl r inside)
     go false r =
@@ -133,26 +134,30 @@ struct-join : (symbols : List Symbol) (values others : List Written) (x : Token)
 unfolding struct-name struct-base struct-type hungry refuse_check
 struct-join symbols values others x [] left s reached =
     absurd (no-tokens (symbol.Take terminal.Name ∷ struct-name) symbols (leaf x ∷ values) others left refl
-      (struct-inside symbols values others x [] left s reached))
+    (struct-inside symbols values others x [] left s reached))
 struct-join symbols values others x (y ∷ []) left s reached =
     absurd (no-tokens struct-name symbols (leaf y ∷ leaf x ∷ values) others left refl
-      (back-take-token struct-name symbols (leaf x ∷ values) others left terminal.Name y [] (struct-inside symbols values others x (y ∷ []) left s reached)))
+    (back-take-token struct-name symbols (leaf x ∷ values) others left terminal.Name y [] (struct-inside symbols values others x (y ∷ []) left s reached)))
 struct-join symbols values others x (y ∷ z ∷ tokens) left s reached = go (is_brace (kind_of z)) refl
   where
     name : accepts terminal.Name (kind_of y) ≡ true
     name = back-accepts struct-name symbols (leaf x ∷ values) others left terminal.Name y (z ∷ tokens)
         (struct-inside symbols values others x (y ∷ z ∷ tokens) left s reached)
+
     named : List Written
     named = reduce make.Identifier (leaf y ∷ leaf x ∷ values)
+
     behind : Reaches (at (struct-base ++ symbols) named (z ∷ tokens)) (at symbols others left)
     behind = back-reduce struct-base symbols (leaf y ∷ leaf x ∷ values) others left make.Identifier (z ∷ tokens)
         (back-take-token struct-name symbols (leaf x ∷ values) others left terminal.Name y (z ∷ tokens)
-          (struct-inside symbols values others x (y ∷ z ∷ tokens) left s reached))
+        (struct-inside symbols values others x (y ∷ z ∷ tokens) left s reached))
+
     front : Reaches (at (symbol.Read part.Unit ∷ symbols) values (x ∷ y ∷ z ∷ tokens)) (at (symbol.Read part.AfterTag ∷ symbols) named (z ∷ tokens))
     front =
         join (part-take part.Unit is_struct _ symbols values x (y ∷ z ∷ tokens) unit-struct s)
         (join (take-step terminal.Name (symbol.Reduce make.Identifier ∷ symbol.Read part.AfterTag ∷ symbols) (leaf x ∷ values) y (z ∷ tokens) name)
         (reduce-step make.Identifier (symbol.Read part.AfterTag ∷ symbols) (leaf y ∷ leaf x ∷ values) (z ∷ tokens)))
+
     go : (b : Bool) → is_brace (kind_of z) ≡ b → Reaches (at (symbol.Read part.Unit ∷ symbols) values (x ∷ y ∷ z ∷ tokens)) (at symbols others left)
     go true b = absurd (refused struct-base symbols named others is_brace z tokens left refl b behind)
     go false b =
@@ -173,7 +178,7 @@ unit-join symbols values others (x ∷ tokens) left reached = go (is_volatile (k
     go false true e e' = struct-join symbols values others x tokens left e' reached
     go false false e e' =
         join (part-stay part.Unit (λ k. not (is_volatile k) && not (is_struct k)) _ symbols values x tokens unit-other
-          (and_from _ _ (not_from_false _ e) (not_from_false _ e'))) reached
+        (and_from _ _ (not_from_false _ e) (not_from_false _ e'))) reached
 
 pub external-reads : (f : Forest) → Match (template make.External) f → AllKnown f → Reads class.unit (node make.External f)
 unfolding ready_check template home reader readers
@@ -201,11 +206,11 @@ unfolding structure tag-name tag-body members hungry
 structure-join symbols values others [] left r = absurd (no-tokens (symbol.Take (word keyword.Struct) ∷ structure) symbols values others left refl r)
 structure-join symbols values others (x ∷ []) left r =
     absurd (no-tokens structure symbols (leaf x ∷ values) others left refl
-      (back-take-token structure symbols values others left (word keyword.Struct) x [] r))
+    (back-take-token structure symbols values others left (word keyword.Struct) x [] r))
 structure-join symbols values others (x ∷ y ∷ []) left r =
     absurd (no-tokens tag-name symbols (leaf y ∷ leaf x ∷ values) others left refl
-      (back-take-token tag-name symbols (leaf x ∷ values) others left terminal.Name y []
-        (back-take-token structure symbols values others left (word keyword.Struct) x (y ∷ []) r)))
+    (back-take-token tag-name symbols (leaf x ∷ values) others left terminal.Name y []
+    (back-take-token structure symbols values others left (word keyword.Struct) x (y ∷ []) r)))
 structure-join symbols values others (x ∷ y ∷ z ∷ tokens) left r =
     let s = back-accepts structure symbols values others left (word keyword.Struct) x (y ∷ z ∷ tokens) r in
     let r1 = back-take-token structure symbols values others left (word keyword.Struct) x (y ∷ z ∷ tokens) r in
@@ -237,7 +242,7 @@ register-join symbols values others [] left r =
     absurd (no-tokens (symbol.Take (word keyword.Volatile) ∷ symbol.Take (word keyword.Register) ∷ register-body) symbols values others left refl r)
 register-join symbols values others (x ∷ []) left r =
     absurd (no-tokens (symbol.Take (word keyword.Register) ∷ register-body) symbols (leaf x ∷ values) others left refl
-      (back-take-token (symbol.Take (word keyword.Register) ∷ register-body) symbols values others left (word keyword.Volatile) x [] r))
+    (back-take-token (symbol.Take (word keyword.Register) ∷ register-body) symbols values others left (word keyword.Volatile) x [] r))
 register-join symbols values others (x ∷ y ∷ tokens) left r =
     let front = symbol.Take (word keyword.Register) ∷ register-body in
     let v = back-accepts front symbols values others left (word keyword.Volatile) x (y ∷ tokens) r in

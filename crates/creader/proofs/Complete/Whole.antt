@@ -1,8 +1,7 @@
 -- Each proper tree is read as each class of which it is, and a source to its end.
-use Rattle.std.specs.Prelude.{◌≡◌, Bool, true, false, not, ◌||◌, ◌&&◌, ◌⊎◌, List, [], ◌∷◌, ◌++◌, if◌then◌else◌}
-use Rattle.std.proofs.Common.{refl, sym, ap, inl, inr, append_assoc}
-use Rattle.std.proofs.lemmas.Bool.{and_parts, or_from, both_ways}
-use Rattle.csyn.specs.declared.token.Token.{Token}
+use Rattle.std.specs.Prelude.{◌≡◌, Bool, true, false, not, ◌&&◌, ◌⊎◌, List, [], ◌∷◌, if◌then◌else◌}
+use Rattle.std.proofs.Common.{refl, sym, inl, inr}
+use Rattle.std.proofs.lemmas.Bool.{and_parts, or_from}
 use Rattle.csyn.specs.declared.operator.BinaryOperator.{BinaryOperator}
 use Rattle.csyn.specs.declared.operator.BinaryOperator.TheVariants as operator
 use Rattle.cgrammar.specs.declared.production.Word.{Word}
@@ -12,7 +11,7 @@ use Rattle.cgrammar.specs.declared.production.Words.TheVariants as every
 use Rattle.cgrammar.specs.declared.production.Production.{Production}
 use Rattle.cgrammar.specs.declared.production.Production.TheVariants as make
 use Rattle.cgrammar.specs.Grammar as class
-use Rattle.cgrammar.specs.Grammar.{Class, Piece, template, home, under, is_wider, class_number, words_number, operator_level, assignment_class, alone, joined}
+use Rattle.cgrammar.specs.Grammar.{Class, Piece, template, home, under, is_wider, class_number, assignment_class, joined}
 use Rattle.cgrammar.specs.Text.{Written, leaf, node, Forest, none, more, IsProper, Match}
 use Rattle.creader.proofs.Complete.Reading.{reader, has_reader, Reads, Complete}
 use Rattle.creader.proofs.Complete.Classes.{under-ways}
@@ -105,6 +104,7 @@ unread-reader a c e u h = go (under-ways a c u)
     same (class.words _) e h = no h
     same class.nothing e h = no h
     same _ e h = no e
+
     go : (a ≡ c) ⊎ (is_wider a c ≡ true) → ⊥
     go (inl s) = same c (rw s at e) h
     go (inr w) = unread-wider a c e w h
@@ -199,6 +199,7 @@ production-known p f m deep = ways (is_expression p) (is_plain p) refl refl
 
 mutual
   unfolding Deep IsProper
+
   written-deep : (w : Written) → IsProper w → Deep w
   written-deep (leaf t) m = tt
   written-deep (node p f) m = let d = forest-deep f (template p) m in (production-known p f m d, d)

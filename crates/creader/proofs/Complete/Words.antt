@@ -1,23 +1,18 @@
 -- How the words of an integer type are read.
-use Rattle.std.specs.Prelude.{◌≡◌, ℕ, Bool, true, false, not, ◌||◌, ◌&&◌, ◌⊎◌, nat_eq, List, [], ◌∷◌, ◌++◌, Option, Some, None}
-use Rattle.std.proofs.Common.{refl, subst, sym, ap, ◌∙◌, inl, inr, append_assoc}
+use Rattle.std.specs.Prelude.{◌≡◌, Bool, true, false, not, ◌⊎◌, List, [], ◌∷◌, ◌++◌}
+use Rattle.std.proofs.Common.{refl, subst, ap, inl, inr, append_assoc}
 use Rattle.csyn.specs.declared.token.Token.{Token}
-use Rattle.csyn.specs.declared.keyword.Keyword.TheVariants as keyword
 use Rattle.csyn.specs.declared.operator.BinaryOperator.TheVariants as operator
-use Rattle.cgrammar.specs.declared.kind.Kind.{Kind}
 use Rattle.cgrammar.specs.declared.production.Word.{Word}
 use Rattle.cgrammar.specs.declared.production.Word.TheVariants as kind
 use Rattle.cgrammar.specs.declared.production.Words.{Words}
 use Rattle.cgrammar.specs.declared.production.Words.TheVariants as every
 use Rattle.cgrammar.specs.declared.production.Production.{Production}
 use Rattle.cgrammar.specs.declared.production.Production.TheVariants as make
-use Rattle.cgrammar.specs.declared.terminal.Terminal.{Terminal}
-use Rattle.cgrammar.specs.declared.terminal.Terminal.TheVariants as terminal
 use Rattle.cgrammar.specs.declared.part.Part.TheVariants as part
 use Rattle.cgrammar.specs.declared.part.Move.TheVariants as move
 use Rattle.cgrammar.specs.declared.part.Symbol.{Symbol}
 use Rattle.cgrammar.specs.declared.part.Symbol.TheVariants as symbol
-use Rattle.cgrammar.specs.Kind.{kind_of}
 use Rattle.cgrammar.specs.Terminal.{accepts}
 use Rattle.cgrammar.specs.Rules.{any_accepts}
 use Rattle.cgrammar.specs.Grammar as class
@@ -26,8 +21,8 @@ use Rattle.cgrammar.specs.Text.{Written, leaf, node, Forest, none, more, IsPrope
 use Rattle.creader.specs.Machine.{at, Reaches}
 use Rattle.creader.proofs.Complete.Reading.{reader, follow, allows, is_statement, Reads}
 use Rattle.creader.proofs.Complete.Classes.{under-ways, same-under}
-use Rattle.creader.proofs.Complete.Steps.{join, take-step, reduce-step, push, reduce-push}
-use Rattle.creader.proofs.Complete.Firsts.{word, integer_words, Begins, no}
+use Rattle.creader.proofs.Complete.Steps.{join, push}
+use Rattle.creader.proofs.Complete.Firsts.{integer_words, Begins, no}
 use Rattle.creader.proofs.Complete.Sequence.{may_follow, reads-from}
 use Rattle.creader.proofs.Complete.Rule.{rule_check, rule_shape, Chosen, part-take, part-stay, made-step}
 
@@ -116,7 +111,7 @@ words-added p ws e = adds-word p (ap is_words e)
 first-reads : (w : Word) (f : Forest) (ws : Words) → alone w ≡ ws → Match (template (make.FirstWord w)) f
     → (symbols : List Symbol) (values : List Written) (tokens : List Token)
     → Reaches (at (symbol.Read part.Base ∷ symbols) values (spells f ++ tokens))
-      (at (symbol.Read (part.Words ws) ∷ symbol.Reduce make.IntegerBase ∷ symbols) (node (make.FirstWord w) f ∷ values) tokens)
+    (at (symbol.Read (part.Words ws) ∷ symbol.Reduce make.IntegerBase ∷ symbols) (node (make.FirstWord w) f ∷ values) tokens)
 unfolding template Match push
 first-reads w none ws e m symbols values tokens = absurd m
 first-reads w (more (node q g) f) ws e m symbols values tokens = absurd m.0
@@ -131,14 +126,14 @@ further-reads : (all : Words) (w : Word) (c : Written) (x : Token) (ws : Words) 
     → Match (template (make.NextWord all w)) (more c (more (leaf x) none))
     → (symbols : List Symbol) (values : List Written) (tokens : List Token)
     → Reaches (at (symbol.Read (part.Words f.earlier) ∷ symbol.Reduce make.IntegerBase ∷ symbols) (c ∷ values) (x ∷ tokens))
-      (at (symbol.Read (part.Words ws) ∷ symbol.Reduce make.IntegerBase ∷ symbols) (node (make.NextWord all w) (more c (more (leaf x) none)) ∷ values) tokens)
+    (at (symbol.Read (part.Words ws) ∷ symbol.Reduce make.IntegerBase ∷ symbols) (node (make.NextWord all w) (more c (more (leaf x) none)) ∷ values) tokens)
 unfolding template Match push
 further-reads all w c x ws f e m symbols values tokens =
     let left = symbol.Reduce make.IntegerBase ∷ symbols in
     let front = part-take (part.Words f.earlier) (accepts (word_token w)) _ left (c ∷ values) x tokens f.chosen m.3.0 in
     let whole = join front (made-step (make.NextWord all w) (more c (more (leaf x) none)) (symbol.Read (part.Words all) ∷ left) values tokens m) in
     subst (λ (v : Words). Reaches (at (symbol.Read (part.Words f.earlier) ∷ left) (c ∷ values) (x ∷ tokens))
-      (at (symbol.Read (part.Words v) ∷ left) (node (make.NextWord all w) (more c (more (leaf x) none)) ∷ values) tokens)) e whole
+    (at (symbol.Read (part.Words v) ∷ left) (node (make.NextWord all w) (more c (more (leaf x) none)) ∷ values) tokens)) e whole
 
 -- The words of a type are read from its base on, and what may go on with them is left to read.
 words-read : (w : Written) (ws : Words) → Stands (class.part (class.words ws)) w → IsProper w

@@ -1,9 +1,6 @@
 -- Expressions of levels 14 and 15 that begin with a token of their own, behind which the rule has the right side as it stands.
-use Rattle.std.proofs.Common.{◌≡◌, ℕ, Bool, true, false, not, ◌&&◌, nat_le, List, [], ◌∷◌, ◌++◌, map, refl, sym, ◌∙◌, subst, true≢false, append_assoc}
+use Rattle.std.proofs.Common.{◌≡◌, Bool, true, false, not, ◌&&◌, nat_le, List, [], ◌∷◌, ◌++◌, map, refl, sym, subst, true≢false, append_assoc}
 use Rattle.std.proofs.lemmas.Bool.{and_parts, and_from}
-use Rattle.csyn.specs.declared.token.Token.{Token}
-use Rattle.csyn.specs.declared.punctuator.Punctuator.TheVariants as punctuator
-use Rattle.cgrammar.specs.declared.kind.Kind.{Kind}
 use Rattle.cgrammar.specs.declared.production.Production.{Production}
 use Rattle.cgrammar.specs.declared.production.Production.TheVariants as make
 use Rattle.cgrammar.specs.declared.terminal.Terminal.{Terminal}
@@ -15,14 +12,15 @@ use Rattle.cgrammar.specs.Terminal.{accepts, keyword_number, punctuator_number}
 use Rattle.cgrammar.specs.Rules.{rules, choose, any_accepts}
 use Rattle.cgrammar.specs.Grammar as class
 use Rattle.cgrammar.specs.Grammar.{Piece, template, home}
-use Rattle.cgrammar.specs.Text.{Written, leaf, node, Forest, none, more, spells, Match, IsProper}
+use Rattle.cgrammar.specs.Text.{leaf, node, Forest, none, more, spells, Match, IsProper}
 use Rattle.creader.proofs.Complete.Reading.{reader, level_reader, has_reader, follow, allows, is_statement, extenders, operators_from}
 use Rattle.creader.proofs.Complete.Kinds.{each, every_kind, at-kind, kinds}
 use Rattle.creader.proofs.Complete.Steps.{join, reduce-step, push, reduce-push}
 use Rattle.creader.proofs.Complete.Firsts.{begins-as, may_begin, firsts, nullable, forest-begins}
 use Rattle.creader.proofs.Complete.Sequence.{readers, fits, ends_open, before_end, sequence-reads}
-use Rattle.creader.proofs.Complete.Heads.{Heads, Behind, AllKnown, is_expression, is_level, is_bare_name, is_name_node, level_of, levels_of, postfix_numbers, tail_of, tail_symbol, inner, symbols_of, barred, barred_of, starts_expression}
-use Rattle.creader.proofs.Complete.Expressions.Tables.{when, when-at, production_number, operator_number}
+use Rattle.creader.proofs.Complete.Heads.{may_end, Heads, AllKnown, is_expression, is_bare_name, is_name_node, level_of, levels_of, postfix_numbers, tail_of, tail_symbol, inner, symbols_of, barred, barred_of, starts_expression}
+use Rattle.creader.proofs.Complete.Expressions.Tables.{when, when-at}
+use Rattle.creader.proofs.Complete.Productions.{production_number, operator_number}
 use Rattle.creader.proofs.Complete.Expressions.Symbols.{same, same_symbol, symbol_number, same-path}
 use Rattle.creader.proofs.Complete.Expressions.Entering.{is_open, behind-heads}
 
@@ -33,8 +31,9 @@ behind_symbols p others = readers others ++ symbol.Reduce p ∷ map tail_symbol 
 unfoldable pub starts : Production → Terminal → List Piece → Bool
 starts p first others =
     every_kind (λ k. when (accepts first k) (λ _. same (inner k) (behind_symbols p others)))
-    && (every_kind (λ k. when (accepts first k && is_open k) (λ _. every_kind (λ l. when (may_begin others (λ _. true) l) (λ _. starts_expression l))))
-    && (fits others (λ kind. not (any_accepts (barred p) kind))
+    && (every_kind (λ k. when (accepts first k && is_open k) (λ _. every_kind (λ l. when (may_begin others (λ _. true) l)
+    (λ _. starts_expression l))))
+    && (fits others (may_end p)
     && (not (ends_open others)
     && nat_le 14 (level_of (home p)))))
 
@@ -59,14 +58,15 @@ module _ (p : Production) (first : Terminal) (others : List Piece) (expression :
         rest = spells f;
         spelled = refl;
         inside = λ o t tokens.
-          let test = when-at (accepts first (kind_of x) && is_open (kind_of x)) _ (at-kind _ b.0 (kind_of x)) (and_from _ _ m'.0 o) in
-          begins-as (may_begin others (λ _. true)) starts_expression (spells f ++ t ∷ tokens) (λ l h. when-at (may_begin others (λ _. true) l) _ (at-kind _ test l) h)
+            let test = when-at (accepts first (kind_of x) && is_open (kind_of x)) _ (at-kind _ b.0 (kind_of x)) (and_from _ _ m'.0 o) in
+            begins-as (may_begin others (λ _. true)) starts_expression (spells f ++ t ∷ tokens) (λ l h. when-at (may_begin others (λ _. true) l) _
+            (at-kind _ test l) h)
             (forest-begins f others m'.3 (λ _. true) (t ∷ tokens) refl);
         reads = λ symbols values t tokens e.
-          let one = sequence-reads others f (λ kind. not (any_accepts (barred p) kind)) (symbol.Reduce p ∷ (after ++ symbols)) (leaf x ∷ values) (t ∷ tokens)
-                c.0 m'.3 known.1 e (λ o. absurd (no_end _ d.0 o)) in
-          let two = reduce-step p (after ++ symbols) (push (more (leaf x) f) values) (t ∷ tokens) in
-          rw (found, append_assoc) (join one (rw (reduce-push p (more (leaf x) f) values m) at two))
+            let one = sequence-reads others f (may_end p) (symbol.Reduce p ∷ (after ++ symbols)) (leaf x ∷ values) (t ∷ tokens)
+            c.0 m'.3 known.1 e (λ o. absurd (no_end _ d.0 o)) in
+            let two = reduce-step p (after ++ symbols) (push (more (leaf x) f) values) (t ∷ tokens) in
+            rw (found, append_assoc) (join one (rw (reduce-push p (more (leaf x) f) values m) at two));
       })
 
   starts-heads : (f : Forest) → template p ≡ class.token first ∷ others → Match (template p) f → AllKnown f → Heads (node p f)
@@ -90,7 +90,8 @@ other_pieces [] = []
 other_pieces (_ ∷ pieces) = pieces
 
 beginning-holds : (p : Production) → is_beginning p ≡ true → starts p (first_terminal (template p)) (other_pieces (template p)) ≡ true
-unfolding is_beginning starts behind_symbols template first_terminal other_pieces every_kind each kinds when starts_expression firsts nullable may_begin any_accepts
+unfolding is_beginning starts behind_symbols template first_terminal other_pieces every_kind each kinds when starts_expression firsts nullable
+    may_begin any_accepts
     accepts keyword_number punctuator_number choose rules inner symbols_of tail_symbol postfix_numbers is_bare_name same same_symbol symbol_number
     production_number operator_number readers fits ends_open before_end reader level_reader has_reader follow allows is_statement extenders
     operators_from barred level_of home
@@ -112,6 +113,7 @@ beginning-template make.PreDecrement h = refl
 beginning-template make.Prefix h = refl
 beginning-template _ h = absurd (true≢false (sym h))
 
-pub beginning-reads : (p : Production) (f : Forest) → is_beginning p ≡ true → is_expression p ≡ true → Match (template p) f → AllKnown f → Heads (node p f)
+pub beginning-reads : (p : Production) (f : Forest) → is_beginning p ≡ true → is_expression p ≡ true → Match (template p) f → AllKnown f
+    → Heads (node p f)
 beginning-reads p f b e m known =
     starts-heads p (first_terminal (template p)) (other_pieces (template p)) e (beginning-holds p b) f (beginning-template p b) m known

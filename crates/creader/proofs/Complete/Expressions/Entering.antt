@@ -1,7 +1,7 @@
 -- Expressions of levels 14 and 15, read from behind their first token: from whatever symbols take that token as a unary expression does.
-use Rattle.std.proofs.Common.{◌≡◌, ℕ, ◌+◌, ◌<◌, ◌≤◌, Bool, true, false, not, ◌&&◌, ◌||◌, ◌⊎◌, if◌then◌else◌, nat_le, nat_eq, List, [], ◌∷◌, ◌++◌, map, refl, sym, ◌∙◌, subst, ap, inl, inr, true≢false, arith, append_assoc, zero-le}
+use Rattle.std.proofs.Common.{◌≡◌, ℕ, ◌≤◌, Bool, true, false, not, ◌&&◌, ◌||◌, ◌⊎◌, if◌then◌else◌, nat_le, nat_eq, List, [], ◌∷◌, ◌++◌, map, refl, ◌∙◌, subst, ap, inl, inr, arith, append_assoc}
 use Rattle.std.proofs.lemmas.List.{map-append}
-use Rattle.std.proofs.lemmas.Bool.{and_parts, or_cases, or_right, le-leb, leb-true, not_from_false}
+use Rattle.std.proofs.lemmas.Bool.{and_parts, leb-true, not_from_false}
 use Rattle.csyn.specs.declared.token.Token.{Token}
 use Rattle.csyn.specs.declared.punctuator.Punctuator.TheVariants as punctuator
 use Rattle.cgrammar.specs.declared.kind.Kind.{Kind}
@@ -14,15 +14,16 @@ use Rattle.cgrammar.specs.Kind.{kind_of}
 use Rattle.cgrammar.specs.Terminal.{accepts, keyword_number, punctuator_number}
 use Rattle.cgrammar.specs.Rules.{rules, chain_rules, chain_tail_rules, choose, any_accepts}
 use Rattle.cgrammar.specs.Grammar as class
-use Rattle.cgrammar.specs.Grammar.{Class, template, home, under, is_wider, class_number}
+use Rattle.cgrammar.specs.Grammar.{template, home}
 use Rattle.cgrammar.specs.Text.{Written, leaf, node, Forest, spell, Match, IsProper}
 use Rattle.creader.specs.Machine.{at, Reaches}
 use Rattle.creader.proofs.Complete.Reading.{level_reader, chain_of, chain_part}
 use Rattle.creader.proofs.Complete.Kinds.{each, every_kind, at-kind, kinds}
 use Rattle.creader.proofs.Complete.Steps.{join}
 use Rattle.creader.proofs.Complete.Firsts.{Begins, begins-as, firsts, nullable, written-begins, sign}
-use Rattle.creader.proofs.Complete.Heads.{Heads, Behind, Ends, is_expression, is_level, is_bare_name, is_name_node, level_of, levels_of, left, left_numbers, postfix_numbers, after_numbers, chain_numbers, tail_of, tail_symbol, inner, symbols_of, starts_expression}
-use Rattle.creader.proofs.Complete.Expressions.Tables.{when, when-at, every_below, below-at, production_number, operator_number}
+use Rattle.creader.proofs.Complete.Heads.{Heads, Behind, Ends, is_expression, is_bare_name, is_name_node, level_of, levels_of, left, left_numbers, postfix_numbers, after_numbers, chain_numbers, tail_of, tail_symbol, inner, symbols_of, starts_expression}
+use Rattle.creader.proofs.Complete.Expressions.Tables.{when, when-at, every_below, below-at, level_zero}
+use Rattle.creader.proofs.Complete.Productions.{production_number, operator_number}
 use Rattle.creader.proofs.Complete.Expressions.Symbols.{same, same_symbol, symbol_number, same-path}
 use Rattle.creader.proofs.Complete.Expressions.Stays.{takes, takes_now, taken, taken_by, settle, once, stayed, stayed_by, takes-reaches, settle-reaches}
 use Rattle.creader.proofs.Complete.Expressions.Tails.{expression-level}
@@ -35,7 +36,8 @@ is_open kind = accepts (sign punctuator.LeftParenthesis) kind
 unfoldable pub enters : List Symbol → List Symbol → ℕ → List Symbol → Bool
 enters start opened steps after = every_kind (λ k. when (starts_expression k) (λ _.
     when (not (is_open k)) (λ _. takes start k (inner k ++ after))
-    && when (is_open k) (λ _. takes start k opened && every_kind (λ l. when (starts_expression l) (λ _. same (settle steps opened l) (inner k ++ after))))))
+    && when (is_open k) (λ _. takes start k opened && every_kind (λ l. when (starts_expression l) (λ _. same (settle steps opened l)
+    (inner k ++ after))))))
 
 -- before whatever token that passes a test the symbols become these
 pub opened-goes : (test : Kind → Bool) (opened found : List Symbol) (steps : ℕ) (symbols : List Symbol) (values : List Written) (tokens : List Token)
@@ -45,7 +47,7 @@ opened-goes test opened found steps symbols values [] h b = absurd b
 opened-goes test opened found steps symbols values (t ∷ tokens) h b =
     let e = same-path (settle steps opened (kind_of t)) found (when-at (test (kind_of t)) _ (at-kind _ h (kind_of t)) b) in
     subst (λ s. Reaches (at (opened ++ symbols) values (t ∷ tokens)) (at (s ++ symbols) values (t ∷ tokens))) e
-      (settle-reaches steps opened symbols values t tokens)
+    (settle-reaches steps opened symbols values t tokens)
 
 pub enter : (w : Written) (start opened : List Symbol) (steps : ℕ) (after : List Symbol) → enters start opened steps after ≡ true
     → (b : Behind w) → starts_expression (kind_of b.first) ≡ true
@@ -60,22 +62,24 @@ enter w start opened steps after h b s symbols values t tokens e =
     go : (o : Bool) → is_open (kind_of b.first) ≡ o
         → when (not (is_open (kind_of b.first))) (λ _. takes start (kind_of b.first) (inner (kind_of b.first) ++ after)) ≡ true
         → when (is_open (kind_of b.first)) (λ _. takes start (kind_of b.first) opened
-            && every_kind (λ l. when (starts_expression l) (λ _. same (settle steps opened l) (inner (kind_of b.first) ++ after)))) ≡ true
+        && every_kind (λ l. when (starts_expression l) (λ _. same (settle steps opened l) (inner (kind_of b.first) ++ after)))) ≡ true
         → Reaches (at (start ++ symbols) values (b.first ∷ (b.rest ++ t ∷ tokens)))
-            (at (inner (kind_of b.first) ++ (after ++ symbols)) (leaf b.first ∷ values) (b.rest ++ t ∷ tokens))
+        (at (inner (kind_of b.first) ++ (after ++ symbols)) (leaf b.first ∷ values) (b.rest ++ t ∷ tokens))
     go false o h h' = rw (← append_assoc (inner (kind_of b.first)))
         (takes-reaches start (inner (kind_of b.first) ++ after) symbols values b.first (b.rest ++ t ∷ tokens)
-          (when-at _ _ h (not_from_false _ o)))
+        (when-at _ _ h (not_from_false _ o)))
     go true o h h' =
         let two = and_parts _ _ (when-at _ _ h' o) in
         rw (← append_assoc (inner (kind_of b.first)))
         (join (takes-reaches start opened symbols values b.first (b.rest ++ t ∷ tokens) two.0)
-          (opened-goes starts_expression opened (inner (kind_of b.first) ++ after) steps symbols (leaf b.first ∷ values) (b.rest ++ t ∷ tokens) two.1 (b.inside o t tokens)))
+        (opened-goes starts_expression opened (inner (kind_of b.first) ++ after) steps symbols (leaf b.first ∷ values) (b.rest ++ t ∷ tokens) two.1
+        (b.inside o t tokens)))
 
 -- how the reader of a level takes a parenthesis, and what stands behind the unary expression
 unfoldable pub opened_at : ℕ → List Symbol
 opened_at n = if nat_le n 1 then symbol.Read part.AssignmentParenthesis ∷ map tail_symbol (if nat_eq n 0 then 0 ∷ [] else [])
-    else (if nat_le n 13 then symbol.Read part.OperandParenthesis ∷ map tail_symbol (after_numbers n 13) else inner (kind.Punctuator punctuator.LeftParenthesis))
+    else (if nat_le n 13 then symbol.Read part.OperandParenthesis ∷ map tail_symbol (after_numbers n 13) else inner
+    (kind.Punctuator punctuator.LeftParenthesis))
 
 unfoldable steps_at : ℕ → ℕ
 steps_at n = if nat_le n 13 then 1 else 0
@@ -85,7 +89,8 @@ levels_enter = every_below 15 (λ n. enters (level_reader n) (opened_at n) (step
 
 levels-enter : levels_enter ≡ true
 unfolding levels_enter every_below enters every_kind each kinds when starts_expression firsts any_accepts accepts keyword_number punctuator_number
-    takes takes_now taken taken_by settle once stayed stayed_by choose rules chain_rules chain_tail_rules level_reader chain_of chain_part opened_at steps_at
+    takes takes_now taken taken_by settle once stayed stayed_by choose rules chain_rules chain_tail_rules level_reader chain_of chain_part opened_at
+    steps_at
     tail_symbol after_numbers chain_numbers inner symbols_of same same_symbol symbol_number production_number operator_number
 levels-enter = refl
 
@@ -94,20 +99,15 @@ fifteen : (n : ℕ) → after_numbers n 15 ≡ after_numbers n 14
 unfolding after_numbers chain_numbers
 fifteen n = refl
 
-after_highest : (n m : ℕ) → 14 ≤ m → m ≤ 15 → after_numbers n m ≡ after_numbers n 14
+pub after_highest : (n m : ℕ) → 14 ≤ m → m ≤ 15 → after_numbers n m ≡ after_numbers n 14
 after_highest n m a b = go (either m a b)
   where
     either : (m : ℕ) → 14 ≤ m → m ≤ 15 → (m ≡ 14) ⊎ (m ≡ 15)
     either m a b = grind arith
+
     go : (m ≡ 14) ⊎ (m ≡ 15) → after_numbers n m ≡ after_numbers n 14
     go (inl e) = ap (after_numbers n) e
     go (inr e) = ap (after_numbers n) e ∙ fifteen n
-
-level_zero : (d : Class) → is_level d ≡ true → under d (class.level 0) ≡ true
-unfolding is_level under is_wider class_number
-level_zero (class.level m) h = or_right _ _ (le-leb 0 m zero-le)
-level_zero class.callee h = refl
-level_zero _ h = absurd (true≢false (sym h))
 
 or_nothing : (b : Bool) → (b || false) ≡ true → b ≡ true
 or_nothing true h = refl
@@ -118,11 +118,13 @@ pub expression-begins : (p : Production) (f : Forest) → is_expression p ≡ tr
     → Begins starts_expression (spell (node p f) ++ t ∷ tokens)
 unfolding is_expression starts_expression nullable IsProper
 expression-begins p f e m t tokens =
-    begins-as (λ kind. any_accepts (firsts (class.level 0)) kind || (nullable (class.level 0) && true)) starts_expression (spell (node p f) ++ t ∷ tokens)
-      (λ kind h. or_nothing (any_accepts (firsts (class.level 0)) kind) h)
-      (written-begins (node p f) m (class.level 0) (level_zero (home p) e) (λ _. true) (t ∷ tokens) refl)
+    begins-as (λ kind. any_accepts (firsts (class.level 0)) kind || (nullable (class.level 0)
+    && true)) starts_expression (spell (node p f) ++ t ∷ tokens)
+    (λ kind h. or_nothing (any_accepts (firsts (class.level 0)) kind) h)
+    (written-begins (node p f) m (class.level 0) (level_zero (home p) e) (λ _. true) (t ∷ tokens) refl)
 
-behind-starts : (p : Production) (f : Forest) → is_expression p ≡ true → Match (template p) f → (b : Behind (node p f)) → starts_expression (kind_of b.first) ≡ true
+pub behind-starts : (p : Production) (f : Forest) → is_expression p ≡ true → Match (template p) f → (b : Behind (node p f))
+    → starts_expression (kind_of b.first) ≡ true
 behind-starts p f e m b = rw b.spelled at (expression-begins p f e m b.first [])
 
 -- what is read from behind its first token is read where an expression of any level is wanted
@@ -132,9 +134,13 @@ unfolding left left_numbers tail_of levels_of is_name_node levels_enter
 behind-heads p f e h m b = record {
   behind = λ h. b;
   heads = λ n l n_low symbols values t tokens ends.
-    let low = leb-true n 14 n_low in
-    let entered = enter (node p f) (level_reader n) (opened_at n) (steps_at n) (map tail_symbol (after_numbers n 14)) (below-at 15 _ levels-enter n (omega arith)) b
-          (behind-starts p f e m b) symbols values t tokens ends in
-    rw (map-append tail_symbol (postfix_numbers (level_of (home p)) (is_bare_name p)) (after_numbers n (level_of (home p))),
-      after_highest n (level_of (home p)) (leb-true 14 _ h) (expression-level p e), append_assoc) entered
+      let low = leb-true n 14 n_low in
+      let entered = enter (node p f) (level_reader n) (opened_at n) (steps_at n) (map tail_symbol (after_numbers n 14))
+      (below-at 15 _ levels-enter n (omega arith)) b
+      (behind-starts p f e m b) symbols values t tokens ends in
+      rw (
+        map-append tail_symbol (postfix_numbers (level_of (home p)) (is_bare_name p)) (after_numbers n (level_of (home p))),
+        after_highest n (level_of (home p)) (leb-true 14 _ h) (expression-level p e),
+        append_assoc,
+      ) entered;
 }

@@ -1,6 +1,6 @@
 -- Expressions that begin with an expression: their first part is read by itself, and what it has left goes on with the token behind it.
-use Rattle.std.proofs.Common.{◌≡◌, ℕ, ◌+◌, ◌<◌, ◌≤◌, Bool, true, false, not, ◌&&◌, ◌||◌, ◌⊎◌, if◌then◌else◌, nat_le, nat_eq, List, [], ◌∷◌, ◌++◌, map, refl, sym, ◌∙◌, subst, ap, inl, inr, true≢false, arith, append_assoc, append-nil, le_trans}
-use Rattle.std.proofs.lemmas.Bool.{and_parts, and_from, or_cases, le-leb, leb-true, eqb-true}
+use Rattle.std.proofs.Common.{◌≡◌, ℕ, Bool, true, false, not, ◌&&◌, ◌||◌, ◌⊎◌, if◌then◌else◌, nat_le, nat_eq, List, ◌∷◌, ◌++◌, map, refl, sym, ◌∙◌, subst, ap, inl, inr, true≢false, arith, append_assoc, append-nil}
+use Rattle.std.proofs.lemmas.Bool.{and_parts, and_from, le-leb, leb-true, eqb-true}
 use Rattle.csyn.specs.declared.token.Token.{Token}
 use Rattle.cgrammar.specs.declared.kind.Kind.{Kind}
 use Rattle.cgrammar.specs.declared.production.Production.{Production}
@@ -12,16 +12,14 @@ use Rattle.cgrammar.specs.Kind.{kind_of}
 use Rattle.cgrammar.specs.Terminal.{accepts}
 use Rattle.cgrammar.specs.Rules.{any_accepts}
 use Rattle.cgrammar.specs.Grammar as class
-use Rattle.cgrammar.specs.Grammar.{Class, Piece, template, home, under, class_number, is_wider, words_number}
-use Rattle.cgrammar.specs.Text.{Written, leaf, node, Forest, none, more, spell, spells, Match, IsProper}
-use Rattle.creader.specs.Machine.{at, reduce, Reaches}
-use Rattle.creader.proofs.Complete.Reading.{level_reader}
+use Rattle.cgrammar.specs.Grammar.{Class, Piece, template, home, under, is_wider}
+use Rattle.cgrammar.specs.Text.{Written, leaf, node, Forest, none, more, spells, Match, IsProper}
+use Rattle.creader.specs.Machine.{at, Reaches}
 use Rattle.creader.proofs.Complete.Kinds.{every_kind, at-kind}
 use Rattle.creader.proofs.Complete.Classes.{under-ways}
 use Rattle.creader.proofs.Complete.Steps.{join, reduce-step, push, reduce-push}
-use Rattle.creader.proofs.Complete.Firsts.{Begins}
 use Rattle.creader.proofs.Complete.Sequence.{readers, fits, ends_open, sequence-reads}
-use Rattle.creader.proofs.Complete.Heads.{Heads, Behind, Known, AllKnown, is_expression, is_level, is_bare_name, is_name_node, level_of, levels_of, left, left_numbers, postfix_numbers, after_numbers, chain_numbers, tail_of, tail_symbol, barred, barred_of, inner, Ends}
+use Rattle.creader.proofs.Complete.Heads.{may_end, Heads, AllKnown, is_expression, is_level, is_bare_name, is_name_node, level_of, levels_of, left, left_numbers, postfix_numbers, after_numbers, chain_numbers, tail_of, tail_symbol, barred, barred_of}
 use Rattle.creader.proofs.Complete.KnownReads.{known-heads, under-level, level-under}
 use Rattle.creader.proofs.Complete.Expressions.Tables.{when, when-at, every_below, below-at, every_expression, at-expression}
 use Rattle.creader.proofs.Complete.Expressions.Stays.{takes, takes-reaches}
@@ -51,12 +49,13 @@ suits shape m name = nat_le shape.level m && (shape.bare || not name)
 unfoldable pub token_grows : Production → Shape → Kind → Bool
 token_grows p shape kind =
     every_below 16 (λ m. every_below 16 (λ n. when (nat_le n (level_of (home p))) (λ _.
-      when (suits shape m true) (λ _. goes_on p shape m true n kind) && when (suits shape m false) (λ _. goes_on p shape m false n kind))))
-    && every_expression (λ q. when (is_expression q) (λ _. when (suits shape (level_of (home q)) (is_bare_name q)) (λ _. not (any_accepts (barred q) kind))))
+    when (suits shape m true) (λ _. goes_on p shape m true n kind) && when (suits shape m false) (λ _. goes_on p shape m false n kind))))
+    && every_expression (λ q. when (is_expression q) (λ _. when (suits shape (level_of (home q)) (is_bare_name q)) (λ _. not (any_accepts
+    (barred q) kind))))
 
 unfoldable pub grows : Production → Shape → Bool
 grows p shape = every_kind (λ kind. when (accepts shape.operator kind) (λ _. token_grows p shape kind))
-    && (fits shape.others (λ kind. not (any_accepts (barred p) kind))
+    && (fits shape.others (may_end p)
     && (not (ends_open shape.others)
     && ((shape.bare || nat_eq shape.level 15)
     && (nat_le (level_of (home p)) shape.level
@@ -88,7 +87,8 @@ callee_expression : (d : Class) → d ≡ class.callee → is_level d ≡ true
 unfolding is_level
 callee_expression d e = rw e refl
 
-callee_suits : (level : ℕ) (d : Class) (name : Bool) → d ≡ class.callee → name ≡ false → level ≡ 15 → (nat_le level (level_of d) && (false || not name)) ≡ true
+callee_suits : (level : ℕ) (d : Class) (name : Bool) → d ≡ class.callee → name ≡ false → level ≡ 15
+    → (nat_le level (level_of d) && (false || not name)) ≡ true
 unfolding level_of
 callee_suits level d name e f l = rw (e, f, l) refl
 
@@ -102,7 +102,7 @@ suits-by : (level : ℕ) (bare : Bool) (operator : Terminal) (others : List Piec
 unfolding suits is_expression
 suits-by level true operator others q h u = record {
   expression = under-level (home q) level u;
-  suits_it = and_from _ _ (le-leb level (level_of (home q)) (level-under (home q) level u)) refl
+  suits_it = and_from _ _ (le-leb level (level_of (home q)) (level-under (home q) level u)) refl;
 }
 suits-by level false operator others q h u =
     let e = callee-class (home q) u in
@@ -118,7 +118,7 @@ left-tail w e = rw (e, append-nil (postfix_numbers 15 (is_name_node w))) refl
 -- a production of that shape
 module _ (p : Production) (shape : Shape) (expression : is_expression p ≡ true) (holds : grows p shape ≡ true) where
   parts_of_test : (every_kind (λ kind. when (accepts shape.operator kind) (λ _. token_grows p shape kind)) ≡ true)
-      × (fits shape.others (λ kind. not (any_accepts (barred p) kind)) ≡ true)
+      × (fits shape.others (may_end p) ≡ true)
       × (ends_open shape.others ≡ false)
       × ((shape.bare || nat_eq shape.level 15) ≡ true)
       × (nat_le (level_of (home p)) shape.level ≡ true)
@@ -164,15 +164,16 @@ module _ (p : Production) (shape : Shape) (expression : is_expression p ≡ true
       → (n : ℕ) → nat_le n (level_of (home p)) ≡ true
       → (symbols : List Symbol) (values : List Written) (t : Token) (tokens : List Token) → not (any_accepts (barred p) (kind_of t)) ≡ true
       → Reaches (at (left n (node q g) ++ symbols) (node q g ∷ values) (x ∷ (spells f ++ t ∷ tokens)))
-          (at (left n (node p (more (node q g) (more (leaf x) f))) ++ symbols) (node p (more (node q g) (more (leaf x) f)) ∷ values) (t ∷ tokens))
+      (at (left n (node p (more (node q g) (more (leaf x) f))) ++ symbols) (node p (more (node q g) (more (leaf x) f)) ∷ values) (t ∷ tokens))
   unfolding left levels_of is_name_node goes_on wanted push
   goes q g x f s a m others known n l symbols values t tokens e =
       let whole = more (node q g) (more (leaf x) f) in
       let after = map tail_symbol (left_numbers n (level_of (home p)) (is_bare_name p)) in
-      let one = takes-reaches (map tail_symbol (left_numbers n (level_of (home q)) (is_bare_name q))) (readers shape.others ++ symbol.Reduce p ∷ after) symbols
-            (node q g ∷ values) x (spells f ++ t ∷ tokens) (first_goes q s (kind_of x) a n l) in
-      let two = sequence-reads shape.others f (λ kind. not (any_accepts (barred p) kind)) (symbol.Reduce p ∷ (after ++ symbols)) (leaf x ∷ (node q g ∷ values)) (t ∷ tokens)
-            parts_of_test.1 others known e (λ o. absurd (true≢false (sym o ∙ parts_of_test.2))) in
+      let one = takes-reaches (map tail_symbol (left_numbers n (level_of (home q)) (is_bare_name q)))
+      (readers shape.others ++ symbol.Reduce p ∷ after) symbols
+      (node q g ∷ values) x (spells f ++ t ∷ tokens) (first_goes q s (kind_of x) a n l) in
+      let two = sequence-reads shape.others f (may_end p) (symbol.Reduce p ∷ (after ++ symbols)) (leaf x ∷ (node q g ∷ values)) (t ∷ tokens)
+      parts_of_test.1 others known e (λ o. absurd (true≢false (sym o ∙ parts_of_test.2))) in
       let three = reduce-step p (after ++ symbols) (push whole values) (t ∷ tokens) in
       join (rw append_assoc at one) (join two (rw (reduce-push p whole values m) at three))
 
@@ -209,19 +210,20 @@ module _ (p : Production) (shape : Shape) (expression : is_expression p ≡ true
       let going = goes q g x f s m'.3.0 m m'.3.3 known.1.1 in
       record {
         behind = λ h.
-          let b = first.behind (first_level q s 14 h) in
-          let last = first_last q s h in
-          record {
-            first = b.first;
-            rest = b.rest ++ x ∷ spells f;
-            spelled = ap (λ tokens. tokens ++ x ∷ spells f) b.spelled;
-            inside = λ a t tokens. rw append_assoc (b.inside a x (spells f ++ t ∷ tokens));
-            reads = λ symbols values t tokens e. rw (append_assoc, ← left-tail (node p (more (node q g) (more (leaf x) f))) last.0)
-              (join (b.reads symbols values x (spells f ++ t ∷ tokens) ends)
-                (rw (← left-tail (node q g) last.1) (going 15 (le-leb 15 _ (omega arith)) symbols values t tokens e)))
-          };
+            let b = first.behind (first_level q s 14 h) in
+            let last = first_last q s h in
+            record {
+              first = b.first;
+              rest = b.rest ++ x ∷ spells f;
+              spelled = ap (λ tokens. tokens ++ x ∷ spells f) b.spelled;
+              inside = λ a t tokens. rw append_assoc (b.inside a x (spells f ++ t ∷ tokens));
+              reads = λ symbols values t tokens e. rw (append_assoc, ← left-tail (node p (more (node q g) (more (leaf x) f))) last.0)
+                  (join (b.reads symbols values x (spells f ++ t ∷ tokens) ends)
+                  (rw (← left-tail (node q g) last.1) (going 15 (le-leb 15 _ (omega arith)) symbols values t tokens e)));
+            };
         heads = λ n l b symbols values t tokens e.
-          rw append_assoc (join (first.heads n (first_level q s n l) b symbols values x (spells f ++ t ∷ tokens) ends) (going n l symbols values t tokens e))
+            rw append_assoc (join (first.heads n (first_level q s n l) b symbols values x (spells f ++ t ∷ tokens) ends)
+            (going n l symbols values t tokens e));
       }
 
   pub grows-heads : (f : Forest) → template p ≡ class.part (first_class shape) ∷ class.token shape.operator ∷ shape.others

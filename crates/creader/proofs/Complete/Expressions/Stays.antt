@@ -1,5 +1,5 @@
 -- Steps that take no token, and the step that takes one, computed from the symbols and the kind of the next token.
-use Rattle.std.proofs.Common.{◌≡◌, ℕ, zero, suc, Bool, true, false, List, [], ◌∷◌, ◌++◌, Option, Some, None, refl, sym, ap, subst, true≢false, append_assoc}
+use Rattle.std.proofs.Common.{◌≡◌, ℕ, zero, suc, Bool, true, false, List, [], ◌∷◌, ◌++◌, Option, Some, None, refl, sym, subst, true≢false, append_assoc}
 use Rattle.csyn.specs.declared.token.Token.{Token}
 use Rattle.cgrammar.specs.declared.kind.Kind.{Kind}
 use Rattle.cgrammar.specs.declared.part.Part.{Part}
@@ -31,14 +31,14 @@ module _ (p : Part) (symbols more : List Symbol) (values : List Written) (t : To
   once_by_move : (m : Move) (replaced : List Symbol)
       → Reaches (at (symbol.Read p ∷ (symbols ++ more)) values (t ∷ tokens)) (moved m (replaced ++ (symbols ++ more)) values t tokens)
       → Reaches (at (symbol.Read p ∷ (symbols ++ more)) values (t ∷ tokens))
-          (at (stayed_by m replaced symbols (symbol.Read p ∷ symbols) ++ more) values (t ∷ tokens))
+      (at (stayed_by m replaced symbols (symbol.Read p ∷ symbols) ++ more) values (t ∷ tokens))
   unfolding stayed_by
   once_by_move move.Stay replaced h = rw append_assoc h
   once_by_move move.Take replaced h = Reaches.here
 
   once_by_rule : (chosen : Option Rule) → choose (rules p) (kind_of t) ≡ chosen
       → Reaches (at (symbol.Read p ∷ (symbols ++ more)) values (t ∷ tokens))
-          (at (stayed chosen symbols (symbol.Read p ∷ symbols) ++ more) values (t ∷ tokens))
+      (at (stayed chosen symbols (symbol.Read p ∷ symbols) ++ more) values (t ∷ tokens))
   unfolding stayed
   once_by_rule None e = Reaches.here
   once_by_rule (Some rule) e = once_by_move rule.move rule.symbols (read-step p rule (symbols ++ more) values t tokens e)
@@ -72,7 +72,7 @@ pub settles-reaches : (symbols wanted more : List Symbol) (values : List Written
 unfolding settles
 settles-reaches symbols wanted more values t tokens h =
     subst (λ s. Reaches (at (symbols ++ more) values (t ∷ tokens)) (at (s ++ more) values (t ∷ tokens)))
-      (same-path (settle 16 symbols (kind_of t)) wanted h) (settle-reaches 16 symbols more values t tokens)
+    (same-path (settle 16 symbols (kind_of t)) wanted h) (settle-reaches 16 symbols more values t tokens)
 
 -- the same, with the token taken at last
 unfoldable pub taken_by : Move → List Symbol → List Symbol → Bool

@@ -1,15 +1,15 @@
 -- Lists of symbols are compared by computing. Only the symbols by which expressions are read are told apart.
-use Rattle.std.proofs.Common.{◌≡◌, ℕ, ◌+◌, Bool, true, false, ◌&&◌, nat_eq, nat_le, List, [], ◌∷◌, ◌++◌, map, get_or, refl, sym, ◌∙◌, ap, ap₂, true≢false}
+use Rattle.std.proofs.Common.{◌≡◌, ℕ, Bool, true, false, ◌&&◌, nat_eq, nat_le, List, [], ◌∷◌, get_or, Some, refl, sym, ◌∙◌, ap, ap₂, true≢false}
 use Rattle.std.proofs.lemmas.Bool.{and_parts, eqb-true}
 use Rattle.csyn.specs.declared.punctuator.Punctuator.TheVariants as punctuator
-use Rattle.csyn.specs.declared.operator.BinaryOperator.TheVariants as operator
-use Rattle.cgrammar.specs.declared.production.Production.TheVariants as make
+use Rattle.cgrammar.specs.declared.production.Production.{Production}
 use Rattle.cgrammar.specs.declared.production.Level.TheVariants as chain
 use Rattle.cgrammar.specs.declared.terminal.Terminal.TheVariants as terminal
 use Rattle.cgrammar.specs.declared.part.Part.TheVariants as part
 use Rattle.cgrammar.specs.declared.part.Symbol.{Symbol}
 use Rattle.cgrammar.specs.declared.part.Symbol.TheVariants as symbol
-use Rattle.creader.proofs.Complete.Expressions.Tables.{productions, production_number, operators, operator_number}
+use Rattle.creader.proofs.Complete.Kinds.{entry}
+use Rattle.creader.proofs.Complete.Productions.{productions, production_number, production-entry}
 
 unfoldable pub known_symbols : List Symbol
 known_symbols =
@@ -32,7 +32,7 @@ known_symbols =
     (symbol.Read (part.ChainTail chain.BitAnd)) ∷ (symbol.Read (part.ChainTail chain.Equality)) ∷
     (symbol.Read (part.ChainTail chain.Relation)) ∷ (symbol.Read (part.ChainTail chain.Shift)) ∷
     (symbol.Read (part.ChainTail chain.Sum)) ∷ (symbol.Read (part.ChainTail chain.Product)) ∷
-    (symbol.Reduce make.Identifier) ∷ map symbol.Reduce productions
+    []
 
 unfoldable pub symbol_number : Symbol → ℕ
 symbol_number (symbol.Take (terminal.Punctuator punctuator.RightParenthesis)) = 0
@@ -76,12 +76,10 @@ symbol_number (symbol.Read (part.ChainTail chain.Relation)) = 37
 symbol_number (symbol.Read (part.ChainTail chain.Shift)) = 38
 symbol_number (symbol.Read (part.ChainTail chain.Sum)) = 39
 symbol_number (symbol.Read (part.ChainTail chain.Product)) = 40
-symbol_number (symbol.Reduce make.Identifier) = 41
-symbol_number (symbol.Reduce p) = 42 + production_number p
 symbol_number _ = 999
 
-symbol-at : (s : Symbol) → nat_le (symbol_number s) 98 ≡ true → get_or known_symbols (symbol_number s) (symbol.Take terminal.Any) ≡ s
-unfolding known_symbols symbol_number productions production_number operators operator_number
+symbol-at : (s : Symbol) → nat_le (symbol_number s) 40 ≡ true → get_or known_symbols (symbol_number s) (symbol.Take terminal.Any) ≡ s
+unfolding known_symbols symbol_number
 symbol-at (symbol.Take (terminal.Punctuator punctuator.RightParenthesis)) h = refl
 symbol-at (symbol.Take (terminal.Punctuator punctuator.RightBracket)) h = refl
 symbol-at (symbol.Take (terminal.Punctuator punctuator.Colon)) h = refl
@@ -123,42 +121,32 @@ symbol-at (symbol.Read (part.ChainTail chain.Relation)) h = refl
 symbol-at (symbol.Read (part.ChainTail chain.Shift)) h = refl
 symbol-at (symbol.Read (part.ChainTail chain.Sum)) h = refl
 symbol-at (symbol.Read (part.ChainTail chain.Product)) h = refl
-symbol-at (symbol.Reduce make.Identifier) h = refl
-symbol-at (symbol.Reduce make.Name) h = refl
-symbol-at (symbol.Reduce make.Number) h = refl
-symbol-at (symbol.Reduce make.Character) h = refl
-symbol-at (symbol.Reduce make.Parenthesised) h = refl
-symbol-at (symbol.Reduce make.Index) h = refl
-symbol-at (symbol.Reduce make.CallFunction) h = refl
-symbol-at (symbol.Reduce make.Call) h = refl
-symbol-at (symbol.Reduce make.Member) h = refl
-symbol-at (symbol.Reduce make.Arrow) h = refl
-symbol-at (symbol.Reduce make.PostIncrement) h = refl
-symbol-at (symbol.Reduce make.PostDecrement) h = refl
-symbol-at (symbol.Reduce make.PreIncrement) h = refl
-symbol-at (symbol.Reduce make.PreDecrement) h = refl
-symbol-at (symbol.Reduce make.Prefix) h = refl
-symbol-at (symbol.Reduce make.SizeofExpression) h = refl
-symbol-at (symbol.Reduce make.SizeofType) h = refl
-symbol-at (symbol.Reduce make.Cast) h = refl
-symbol-at (symbol.Reduce make.Conditional) h = refl
-symbol-at (symbol.Reduce make.Assign) h = refl
-symbol-at (symbol.Reduce make.Comma) h = refl
-symbol-at (symbol.Reduce (make.Binary operator.Multiply)) h = refl
-symbol-at (symbol.Reduce (make.Binary _)) h = refl
-symbol-at (symbol.Reduce (make.AssignWith operator.Multiply)) h = refl
-symbol-at (symbol.Reduce (make.AssignWith _)) h = refl
 symbol-at _ h = absurd (true≢false (sym h))
 
-unfoldable pub same_symbol : Symbol → Symbol → Bool
-same_symbol a b = nat_eq (symbol_number a) (symbol_number b) && (nat_le (symbol_number a) 98 && nat_le (symbol_number b) 98)
+-- productions are told apart by their numbers
+Some_path : (p q : Production) → Some p ≡ Some q → p ≡ q
+Some_path p q e = cc
 
-pub same_symbol-path : (a b : Symbol) → same_symbol a b ≡ true → a ≡ b
-unfolding same_symbol
-same_symbol-path a b h =
+same_production : (p q : Production) → nat_eq (production_number p) (production_number q) ≡ true → p ≡ q
+same_production p q h =
+    let e = ap (λ n. entry n productions) (eqb-true (production_number p) (production_number q) h) in
+    Some_path p q (sym (production-entry p) ∙ (e ∙ production-entry q))
+
+unfoldable pub same_symbol : Symbol → Symbol → Bool
+same_symbol (symbol.Reduce p) (symbol.Reduce q) = nat_eq (production_number p) (production_number q)
+same_symbol a b = nat_eq (symbol_number a) (symbol_number b) && (nat_le (symbol_number a) 40 && nat_le (symbol_number b) 40)
+
+by_number : (a b : Symbol) → (nat_eq (symbol_number a) (symbol_number b) && (nat_le (symbol_number a) 40 && nat_le (symbol_number b) 40)) ≡ true
+    → a ≡ b
+by_number a b h =
     let one = and_parts (nat_eq (symbol_number a) (symbol_number b)) _ h in
-    let two = and_parts (nat_le (symbol_number a) 98) (nat_le (symbol_number b) 98) one.1 in
+    let two = and_parts (nat_le (symbol_number a) 40) (nat_le (symbol_number b) 40) one.1 in
     sym (symbol-at a two.0) ∙ (ap (λ n. get_or known_symbols n (symbol.Take terminal.Any)) (eqb-true _ _ one.0) ∙ symbol-at b two.1)
+
+same_symbol-path : (a b : Symbol) → same_symbol a b ≡ true → a ≡ b
+unfolding same_symbol
+same_symbol-path (symbol.Reduce p) (symbol.Reduce q) h = ap symbol.Reduce (same_production p q h)
+same_symbol-path a b h = by_number a b h
 
 unfoldable pub same : List Symbol → List Symbol → Bool
 same [] [] = true

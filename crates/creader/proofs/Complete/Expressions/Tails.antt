@@ -1,8 +1,7 @@
 -- What has been left behind an expression goes away before a token that can't go on with it.
-use Rattle.std.proofs.Common.{◌≡◌, ℕ, zero, suc, ◌+◌, ◌<◌, ◌≤◌, Bool, true, false, not, ◌&&◌, nat_le, List, [], ◌∷◌, ◌++◌, map, refl, sym, subst, zero-add, suc-add, ◌-◌, arith}
-use Rattle.std.proofs.lemmas.Bool.{and_parts, and_from, le-leb, leb-true}
+use Rattle.std.proofs.Common.{◌≡◌, ℕ, zero, suc, ◌+◌, ◌<◌, ◌≤◌, Bool, true, false, not, ◌&&◌, nat_le, List, [], ◌∷◌, ◌++◌, map, refl, subst, zero-add, suc-add, ◌-◌, arith}
+use Rattle.std.proofs.lemmas.Bool.{and_parts, and_from, leb-true}
 use Rattle.csyn.specs.declared.token.Token.{Token}
-use Rattle.csyn.specs.declared.operator.BinaryOperator.TheVariants as operator
 use Rattle.cgrammar.specs.declared.kind.Kind.{Kind}
 use Rattle.cgrammar.specs.declared.production.Production.{Production}
 use Rattle.cgrammar.specs.declared.part.Symbol.{Symbol}
@@ -13,10 +12,10 @@ use Rattle.cgrammar.specs.Grammar.{home, operator_level, assignment_class}
 use Rattle.cgrammar.specs.Text.{Written}
 use Rattle.creader.specs.Machine.{at, Reaches}
 use Rattle.creader.proofs.Complete.Reading.{extenders, operators_from}
-use Rattle.creader.proofs.Complete.Heads.{level_of, is_level, is_expression, is_bare_name, tail_symbol, left_numbers, postfix_numbers, after_numbers, chain_numbers, barred}
+use Rattle.creader.proofs.Complete.Heads.{level_of, is_level, is_expression, tail_symbol, left_numbers, postfix_numbers, after_numbers, chain_numbers, barred}
 use Rattle.creader.proofs.Complete.Kinds.{each, every_kind, at-kind, kinds}
 use Rattle.creader.proofs.Complete.Steps.{join}
-use Rattle.creader.proofs.Complete.Expressions.Tables.{when, when-at, every_below, below-at, every_expression, at-expression, productions, operators}
+use Rattle.creader.proofs.Complete.Expressions.Tables.{when, when-at, every_below, below-at, every_expression, at-expression}
 use Rattle.creader.proofs.Complete.Expressions.Symbols.{same}
 use Rattle.creader.proofs.Complete.Expressions.Stays.{stayed, stayed_by, once, settle, settles, settles-reaches}
 
@@ -51,7 +50,8 @@ ends_test = every_expression (λ p. when (is_expression p) (λ _. nat_le (level_
     && every_kind (λ k. when (allowed (level_of (home p)) k) (λ _. not (any_accepts (barred p) k)))))
 
 ends_holds : ends_test ≡ true
-unfolding ends_test every_expression productions operators is_expression is_level home assignment_class operator_level level_of barred every_kind each kinds when allowed any_accepts accepts keyword_number punctuator_number extenders operators_from
+unfolding ends_test every_expression is_expression is_level home assignment_class operator_level level_of barred every_kind each kinds when allowed
+    any_accepts accepts keyword_number punctuator_number extenders operators_from
 ends_holds = refl
 
 pub expression-level : (p : Production) → is_expression p ≡ true → level_of (home p) ≤ 15
@@ -77,20 +77,22 @@ gone-reaches [] more values t tokens h = Reaches.here
 gone-reaches (tail ∷ tails) more values t tokens h =
     let both = and_parts (gone (kind_of t) tail) (each (gone (kind_of t)) tails) h in
     join (settles-reaches (tail_symbol tail ∷ []) [] (map tail_symbol tails ++ more) values t tokens both.0)
-      (gone-reaches tails more values t tokens both.1)
+    (gone-reaches tails more values t tokens both.1)
 
 -- each tail from level n on goes away before what may stand behind an expression of level n
 unfoldable gone_test : Bool
 gone_test = every_below 15 (λ n. every_kind (λ k. when (allowed n k) (λ _. every_below 16 (λ tail. when (nat_le n tail) (λ _. gone k tail)))))
 
 gone_holds : gone_test ≡ true
-unfolding gone_test gone every_kind every_below each kinds when allowed any_accepts accepts keyword_number punctuator_number extenders operators_from tail_symbol settles settle once stayed stayed_by choose rules chain_rules chain_tail_rules same
+unfolding gone_test gone every_kind every_below each kinds when allowed any_accepts accepts keyword_number punctuator_number extenders operators_from
+    tail_symbol settles settle once stayed stayed_by choose rules chain_rules chain_tail_rules same
 gone_holds = refl
 
 -- and only such tails are left
 unfoldable left_test : Bool
 left_test = every_below 15 (λ n. every_below 16 (λ m. when (nat_le n m) (λ _.
-    each (λ tail. nat_le n tail && nat_le tail 15) (left_numbers n m true) && each (λ tail. nat_le n tail && nat_le tail 15) (left_numbers n m false))))
+    each (λ tail. nat_le n tail && nat_le tail 15) (left_numbers n m true) && each (λ tail. nat_le n tail
+    && nat_le tail 15) (left_numbers n m false))))
 
 left_holds : left_test ≡ true
 unfolding left_test every_below each when left_numbers postfix_numbers after_numbers chain_numbers
@@ -103,7 +105,8 @@ each-implies test other f (x ∷ xs) h =
     let both = and_parts (test x) (each test xs) h in
     and_from (other x) (each other xs) (f x both.0) (each-implies test other f xs both.1)
 
-left_in_range : (n m : ℕ) (name : Bool) → n < 15 → m < 16 → nat_le n m ≡ true → each (λ tail. nat_le n tail && nat_le tail 15) (left_numbers n m name) ≡ true
+left_in_range : (n m : ℕ) (name : Bool) → n < 15 → m < 16 → nat_le n m ≡ true
+    → each (λ tail. nat_le n tail && nat_le tail 15) (left_numbers n m name) ≡ true
 unfolding left_test
 left_in_range n m true a b l = (and_parts _ _ (when-at (nat_le n m) _ (below-at 16 _ (below-at 15 _ left_holds n a) m b) l)).0
 left_in_range n m false a b l = (and_parts _ _ (when-at (nat_le n m) _ (below-at 16 _ (below-at 15 _ left_holds n a) m b) l)).1
@@ -113,9 +116,10 @@ unfolding gone_test
 gone_at n tail k a h l b = when-at (nat_le n tail) _ (below-at 16 _ (when-at (allowed n k) _ (at-kind _ (below-at 15 _ gone_holds n a) k) h) tail b) l
 
 -- all that has been left goes away
-pub left-gone : (n m : ℕ) (name : Bool) (k : Kind) → n < 15 → m < 16 → nat_le n m ≡ true → allowed n k ≡ true → each (gone k) (left_numbers n m name) ≡ true
+pub left-gone : (n m : ℕ) (name : Bool) (k : Kind) → n < 15 → m < 16 → nat_le n m ≡ true → allowed n k ≡ true
+    → each (gone k) (left_numbers n m name) ≡ true
 left-gone n m name k a b l h =
     each-implies (λ tail. nat_le n tail && nat_le tail 15) (gone k)
-      (λ tail both. let parts = and_parts (nat_le n tail) (nat_le tail 15) both in
-        let top = leb-true tail 15 parts.1 in gone_at n tail k a h parts.0 (omega arith))
-      (left_numbers n m name) (left_in_range n m name a b l)
+    (λ tail both. let parts = and_parts (nat_le n tail) (nat_le tail 15) both in
+    let top = leb-true tail 15 parts.1 in gone_at n tail k a h parts.0 (omega arith))
+    (left_numbers n m name) (left_in_range n m name a b l)
