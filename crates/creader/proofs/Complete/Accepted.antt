@@ -21,6 +21,7 @@ use Rattle.creader.proofs.Complete.Sequence.{may_follow, reads-before}
 use Rattle.creader.proofs.Complete.Rule.{made-step}
 use Rattle.creader.proofs.Complete.Whole.{complete}
 
+-- of a source only sources are made
 source-list : makers class.source ≡ make.Source ∷ []
 unfolding makers kept productions under home is_wider class_number words_number operator_level assignment_class alone joined
 source-list = refl
@@ -32,6 +33,7 @@ is-source p h = go (rw source-list at (in-makers p class.source h))
     go (inl e) = e
     go (inr e) = absurd e
 
+-- units stand before the end
 units-may : (u : Written) (e : Token) → accepts terminal.End (kind_of e) ≡ true → may_follow class.units u (kind_of e) ≡ true
 unfolding is_statement follow allows any_accepts
 units-may u e h = go (accepts terminal.End (kind_of e)) h
@@ -40,6 +42,7 @@ units-may u e h = go (accepts terminal.End (kind_of e)) h
     go true h = refl
     go false h = h
 
+-- The units of a source are read, and its end.
 forest-accepted : (f : Forest) → Match (template make.Source) f
     → Reaches (at (symbol.Read part.Units ∷ symbol.Take terminal.End ∷ symbol.Reduce make.Source ∷ []) [] (spells f)) (at [] (node make.Source f ∷ []) [])
 unfolding template Match push reader has_reader
@@ -53,10 +56,12 @@ forest-accepted (more u (more (leaf e) none)) m =
 forest-accepted (more u (more (leaf e) (more v f))) m = absurd m.3.3
 forest-accepted (more u (more (node p g) f)) m = absurd m.3.0
 
+-- the same of the whole tree
 tree-accepted : (w : Written) → Stands (class.part class.source) w → IsProper w → Reaches (start (spell w)) (at [] (w ∷ []) [])
 unfolding IsProper
 tree-accepted (leaf t) s m = absurd s
 tree-accepted (node p f) s m = let same = is-source p s in rw same (forest-accepted f (rw same at m))
 
+-- Each source is read to its end.
 pub text-accepted : (tokens : List Token) (written : Written) → IsText written tokens → Reaches (start tokens) (at [] (written ∷ []) [])
 text-accepted tokens written t = let same = t.spelled in rw (← same) (tree-accepted written t.is_source t.proper)

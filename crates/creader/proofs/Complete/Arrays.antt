@@ -28,6 +28,7 @@ use Rattle.creader.proofs.Complete.Productions.{productions, kept, makers, In, i
 use Rattle.creader.proofs.Complete.Kinds.{kinds, each, every_kind, at-kind}
 use Rattle.creader.proofs.Complete.Pointers.{not_qualifier, stars-pointers, parameter-tail, stars-read}
 
+-- only one production makes identifiers
 identifier-list : makers class.identifier ≡ make.Identifier ∷ []
 unfolding makers kept productions under home is_wider class_number words_number operator_level assignment_class alone joined
 identifier-list = refl
@@ -45,6 +46,7 @@ pub record IsNamed (w : Written) : Type 0 where
   pub is_name : accepts terminal.Name (kind_of name) ≡ true
   pub same : w ≡ node make.Identifier (more (leaf name) none)
 
+-- its only part is a name
 identifier-forest : (f : Forest) → Match (template make.Identifier) f → IsNamed (node make.Identifier f)
 unfolding template Match
 identifier-forest none m = absurd m
@@ -52,6 +54,7 @@ identifier-forest (more (leaf x) none) m = record { name = x; is_name = m.0; sam
 identifier-forest (more (leaf x) (more v f)) m = absurd m.3
 identifier-forest (more (node p g) f) m = absurd m.0
 
+-- what stands as an identifier is a name
 pub identifier-named : (w : Written) → Stands (class.part class.identifier) w → IsProper w → IsNamed w
 unfolding IsProper
 identifier-named (leaf x) s m = absurd s
@@ -59,6 +62,7 @@ identifier-named (node p f) s m =
     let same = is-identifier p s in
     rw same (identifier-forest f (rw same at m))
 
+-- a name is no qualifier
 name-no-qualifier : (kind : Kind) → is_named kind ≡ true → not_qualifier kind ≡ true
 unfolding every_kind kinds each accepts keyword_number punctuator_number
 name-no-qualifier kind h = implied _ _ (at-kind (λ k. not (is_named k) || not_qualifier k) all kind) h
@@ -82,9 +86,11 @@ array-end ty st n l r symbols values tokens m =
     (join (part-take part.ParameterLength is_closing _ symbols (leaf l ∷ node make.Identifier (more (leaf n) none) ∷ st ∷ ty ∷ values) r tokens length-closing m.3.3.3.3.0)
     (made-step make.ArrayParameter (more ty (more st (more (node make.Identifier (more (leaf n) none)) (more (leaf l) (more (leaf r) none))))) symbols values tokens m)))))
 
+-- what stands behind the type, as if there were pointers of any kind
 abbrev array_pieces : List Piece
 array_pieces = class.part class.pointers ∷ class.part class.identifier ∷ class.token (sign punctuator.LeftBracket) ∷ class.token (sign punctuator.RightBracket) ∷ []
 
+-- with a name written out
 array-named : (ty st : Written) (n l r : Token)
     → Match (template make.ArrayParameter) (more ty (more st (more (node make.Identifier (more (leaf n) none)) (more (leaf l) (more (leaf r) none)))))
     → Known ty → Reads class.parameter (node make.ArrayParameter (more ty (more st (more (node make.Identifier (more (leaf n) none)) (more (leaf l) (more (leaf r) none))))))
@@ -96,6 +102,7 @@ array-named ty st n l r m known = reads-from class.parameter _ (λ symbols value
     (m.0, m.1, m.2, (stars-pointers st m.3.0, m.3.1, m.3.2, m.3.3)) known b' in
     join front (rw (append_assoc (spell st) (n ∷ l ∷ r ∷ []) tokens) (array-end ty st n l r symbols values tokens m)))
 
+-- A parameter with empty brackets is read.
 pub array-reads : (f : Forest) → Match (template make.ArrayParameter) f → AllKnown f → Reads class.parameter (node make.ArrayParameter f)
 unfolding template Match AllKnown
 array-reads none m known = absurd m

@@ -11,6 +11,7 @@ unfoldable or_nothing : Option Class → Class
 or_nothing None = class.nothing
 or_nothing (Some c) = c
 
+-- the classes by number, but for words and levels
 unfoldable plain_classes : List Class
 plain_classes =
     class.callee ∷ class.stars ∷ class.qualified ∷ class.identifier ∷ class.arguments ∷ class.more_arguments ∷ class.optional_expression
@@ -29,6 +30,7 @@ words_classes =
 unfoldable class_of : ℕ → Class
 class_of n = if nat_le 100 n then class.level (n - 100) else or_nothing (if nat_le 80 n then entry (n - 80) words_classes else entry n plain_classes)
 
+-- each class is that of its number
 class_of-number : (c : Class) → class_of (class_number c) ≡ c
 unfolding class_of class_number words_number or_nothing plain_classes words_classes entry
 class_of-number (class.level n) =
@@ -39,6 +41,7 @@ class_of-number (class.words every.Sign) = refl
 class_of-number (class.words _) = refl
 class_of-number _ = refl
 
+-- two classes of one number are one
 pub same-class : (a b : Class) → nat_eq (class_number a) (class_number b) ≡ true → a ≡ b
 same-class a b h = sym (class_of-number a) ∙ (ap class_of (eqb-true (class_number a) (class_number b) h) ∙ class_of-number b)
 
@@ -51,6 +54,7 @@ under-ways a b h = go (or_cases (nat_eq (class_number a) (class_number b)) (is_w
     go (inl e) = inl (same-class a b e)
     go (inr e) = inr e
 
+-- each class stands where it is wanted
 pub same-under : (a : Class) → under a a ≡ true
 unfolding under
 same-under a = or_left _ _ (eq-eqb (class_number a) (class_number a) refl)

@@ -11,6 +11,7 @@ unfoldable mutual
   Deeps none = Unit {0}
   Deeps (more w f) = Deep w × Deeps f
 
+-- what is known of a tree is known of it and of its parts
 pub deep-known : (w : Written) → Deep w → Known w
 unfolding Deep Known
 deep-known (leaf _) d = tt

@@ -33,6 +33,7 @@ word k = terminal.Keyword k
 abbrev pub integer_words : List Terminal
 integer_words = terminal.Sign ∷ terminal.Length ∷ word keyword.Char ∷ word keyword.Int ∷ []
 
+-- what the larger classes begin with
 abbrev expression_starts : List Terminal
 expression_starts = terminal.Name ∷ terminal.Number ∷ terminal.Character ∷ sign punctuator.LeftParenthesis ∷ sign punctuator.Increment
     ∷ sign punctuator.Decrement ∷ terminal.Prefix ∷ word keyword.Sizeof ∷ []
@@ -91,6 +92,7 @@ firsts class.more_parameters = sign punctuator.Comma ∷ []
 firsts class.source = terminal.End ∷ type_starts
 firsts class.nothing = expression_starts
 
+-- it may be without a token
 unfoldable pub nullable : Class → Bool
 nullable class.stars = true
 nullable class.arguments = true
@@ -119,6 +121,7 @@ may_begin [] after kind = after kind
 may_begin (token t ∷ pieces) after kind = accepts t kind
 may_begin (part c ∷ pieces) after kind = any_accepts (firsts c) kind || (nullable c && may_begin pieces after kind)
 
+-- each piece may be without a token
 unfoldable all_nullable : List Piece → Bool
 all_nullable [] = true
 all_nullable (token t ∷ pieces) = false
@@ -129,6 +132,7 @@ abbrev pub Begins : (Kind → Bool) → List Token → Type 0
 Begins test [] = ⊥
 Begins test (t ∷ _) = test (kind_of t) ≡ true
 
+-- a weaker test is passed too
 pub begins-as : (test test' : Kind → Bool) (tokens : List Token) → ((kind : Kind) → test kind ≡ true → test' kind ≡ true) → Begins test tokens → Begins test' tokens
 begins-as test test' [] weaker h = h
 begins-as test test' (t ∷ _) weaker h = weaker (kind_of t) h
@@ -163,6 +167,7 @@ unfoldable closed : Production → Bool
 closed p = every_kind (λ kind. not (may_begin (template p) never kind) || any_accepts (firsts (home p)) kind)
     && (not (all_nullable (template p)) || nullable (home p))
 
+-- as is computed
 closed-all : (p : Production) → closed p ≡ true
 unfolding closed every_kind kinds each may_begin all_nullable template home firsts nullable any_accepts accepts keyword_number punctuator_number
     operator_level operator_token assignment_class assignment_token word_token alone before joined
@@ -209,6 +214,7 @@ wider-nullable class.stars class.pointers h e = refl
 wider-nullable class.stars _ h e = absurd (no h)
 wider-nullable _ _ h e = absurd (no h)
 
+-- what stands where a class is wanted begins as this class does
 under-firsts : (a c : Class) → under a c ≡ true → (kind : Kind) → any_accepts (firsts a) kind ≡ true → any_accepts (firsts c) kind ≡ true
 under-firsts a c h kind e = go (under-ways a c h)
   where
@@ -223,6 +229,7 @@ under-nullable a c h e = go (under-ways a c h)
     go (inl same) = rw same at e
     go (inr wider) = wider-nullable a c wider e
 
+-- a production begins as each class does where it stands, or with what stands behind it
 production-begins : (p : Production) (c : Class) → under (home p) c ≡ true → (test : Kind → Bool) (kind : Kind)
     → may_begin (template p) test kind ≡ true → (any_accepts (firsts c) kind || (nullable c && test kind)) ≡ true
 unfolding closed

@@ -16,6 +16,7 @@ entry n [] = None
 entry zero (x ∷ xs) = Some x
 entry (suc n) (x ∷ xs) = entry n xs
 
+-- the test is true of each entry
 unfoldable pub each : {A : Type 0} → (A → Bool) → List A → Bool
 each test [] = true
 each test (x ∷ xs) = test x && each test xs
@@ -27,6 +28,7 @@ each-at test n [] h e = cc
 each-at test zero (x ∷ xs) h e = let a = (and_parts (test x) (each test xs) h).0 in cc
 each-at test (suc n) (x ∷ xs) h e = each-at test n xs (and_parts (test x) (each test xs) h).1 e
 
+-- all kinds
 unfoldable pub kinds : List Kind
 kinds =
     kind.Name ∷ kind.RegisterName ∷ kind.LocationName ∷ kind.Number ∷ kind.Character ∷ kind.Literal ∷ kind.Standard ∷ kind.Uint32
@@ -70,6 +72,7 @@ kind_number (kind.Keyword k) = 8 + keyword_number k
 kind_number (kind.Punctuator p) = 47 + punctuator_number p
 kind_number kind.End = 93
 
+-- each stands at its number
 pub kind-entry : (k : Kind) → entry (kind_number k) kinds ≡ Some k
 unfolding entry kinds kind_number keyword_number punctuator_number
 kind-entry kind.Name = refl
@@ -83,6 +86,7 @@ kind-entry _ = refl
 unfoldable pub every_kind : (Kind → Bool) → Bool
 every_kind test = each test kinds
 
+-- what is computed of all kinds holds of each
 pub at-kind : (test : Kind → Bool) → every_kind test ≡ true → (k : Kind) → test k ≡ true
 unfolding every_kind
 at-kind test h k = each-at test (kind_number k) kinds h (kind-entry k)

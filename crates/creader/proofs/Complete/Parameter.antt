@@ -27,6 +27,7 @@ use Rattle.creader.proofs.Complete.Plain.{after_of, ready_check, node-after}
 use Rattle.creader.proofs.Complete.Rule.{rule_check, rule_shape, Chosen, part-take, part-stay, stay-at, made-step, back-reduce, back-accepts, back-take-token, back-take, back-stay, hungry, no-tokens, refuse_check, refused}
 use Rattle.creader.proofs.Complete.Pointers.{is_star, is_qualifier, not_qualifier, not_star, pointers-first, stars-tail, stars-end, parameter-tail}
 
+-- some tokens
 abbrev pub is_bracket : Kind → Bool
 is_bracket = accepts (sign punctuator.LeftBracket)
 
@@ -36,6 +37,7 @@ is_closing = accepts (sign punctuator.RightBracket)
 abbrev pub is_named : Kind → Bool
 is_named = accepts terminal.Name
 
+-- what is still to be read of a parameter behind its lengths, its name, its stars
 abbrev ended : List Symbol
 ended = symbol.Reduce make.Parameter ∷ []
 
@@ -48,12 +50,15 @@ identified = symbol.Reduce make.Identifier ∷ lengths
 abbrev named : List Symbol
 named = symbol.Take terminal.Name ∷ identified
 
+-- what stands behind an opening bracket
 abbrev one_length : List Symbol
 one_length = symbol.Read part.Expression ∷ symbol.Take (sign punctuator.RightBracket) ∷ symbol.Read part.Lengths ∷ symbol.Reduce make.Length ∷ []
 
+-- what stands behind a star, from a qualifier on
 abbrev qualified : List Symbol
 qualified = symbol.Read part.Qualifiers ∷ symbol.Reduce make.QualifiedPointer ∷ symbol.Read part.PointersTail ∷ []
 
+-- the rules by which a parameter is read
 parameter-first : Chosen part.Parameter (λ _. true) move.Stay (symbol.Read part.Type ∷ symbol.Reduce make.NoPointers ∷ symbol.Read part.ParameterTail ∷ [])
 unfolding rule_check rule_shape
 parameter-first = record { index = 0; checked = refl; found = refl }
@@ -209,10 +214,12 @@ type-front pieces ty g after symbols values tokens h o m known b =
     (forest-begins (more ty g) (class.part class.«type» ∷ pieces) m after tokens b)) in
     join first (rw append_assoc (reads-before class.«type» ty r (symbol.Reduce make.NoPointers ∷ symbol.Read part.ParameterTail ∷ symbols) values (spells g ++ tokens) may))
 
+-- its parts may stand before one another
 parameter-fits : fits (template make.Parameter) (after_of make.Parameter) ≡ true
 unfolding ready_check
 parameter-fits = refl
 
+-- A parameter is read, but for one with empty brackets.
 pub parameter-reads : (f : Forest) → Match (template make.Parameter) f → AllKnown f → Reads class.parameter (node make.Parameter f)
 unfolding ready_check template home reader readers push AllKnown Match
 parameter-reads none m known = absurd m

@@ -7,7 +7,6 @@ use Rattle.csyn.specs.declared.keyword.Keyword.TheVariants as keyword
 use Rattle.csyn.specs.declared.punctuator.Punctuator.TheVariants as punctuator
 use Rattle.cgrammar.specs.declared.kind.Kind.{Kind}
 use Rattle.cgrammar.specs.declared.production.Production.TheVariants as make
-use Rattle.cgrammar.specs.declared.terminal.Terminal.TheVariants as terminal
 use Rattle.cgrammar.specs.declared.part.Part.TheVariants as part
 use Rattle.cgrammar.specs.declared.part.Move.TheVariants as move
 use Rattle.cgrammar.specs.declared.part.Symbol.{Symbol}
@@ -27,24 +26,17 @@ use Rattle.creader.proofs.Complete.Sequence.{may_follow, reads-from, readers}
 use Rattle.creader.proofs.Complete.Plain.{ready_check, expanded}
 use Rattle.creader.proofs.Complete.Rule.{rule_check, rule_shape, Chosen, part-take, part-stay, stay-at, made-step, back-take, back-stay, hungry, no-tokens, refuse_check, refused}
 
+-- some tokens
 abbrev is_void : Kind → Bool
 is_void = accepts (word keyword.Void)
 
 abbrev is_right : Kind → Bool
 is_right = accepts (sign punctuator.RightParenthesis)
 
-abbrev is_bracket : Kind → Bool
-is_bracket = accepts (sign punctuator.LeftBracket)
-
-abbrev is_closing : Kind → Bool
-is_closing = accepts (sign punctuator.RightBracket)
-
-abbrev is_named : Kind → Bool
-is_named = accepts terminal.Name
-
 abbrev base_type : List Symbol
 base_type = symbol.Read part.Base ∷ symbol.Read part.Qualifiers ∷ symbol.Reduce make.Based ∷ []
 
+-- what is still to be read behind a parameter, its type, its base, a void
 abbrev some_parameters : List Symbol
 some_parameters = symbol.Read part.MoreParameters ∷ symbol.Reduce make.SomeParameters ∷ []
 
@@ -57,6 +49,7 @@ based_parameters = symbol.Read part.Qualifiers ∷ symbol.Reduce make.Based ∷ 
 abbrev void_parameters : List Symbol
 void_parameters = symbol.Reduce make.VoidBase ∷ based_parameters
 
+-- the rules by which parameters are read
 parameters-void : Chosen part.Parameters is_void move.Take (symbol.Read part.AfterVoid ∷ [])
 unfolding rule_check rule_shape
 parameters-void = record { index = 1; checked = refl; found = refl }
@@ -85,6 +78,7 @@ base-void : Chosen part.Base is_void move.Take (symbol.Reduce make.VoidBase ∷ 
 unfolding rule_check rule_shape
 base-void = record { index = 0; checked = refl; found = refl }
 
+-- a parenthesis is what may stand behind them
 right-may : (w : Written) (kind : Kind) → may_follow class.parameters w kind ≡ true → is_right kind ≡ true
 unfolding is_statement follow allows any_accepts
 right-may w kind h = go (is_right kind) h
@@ -131,6 +125,7 @@ void-join symbols values others x (y ∷ tokens) left v reached =
         join (part-take part.Parameters is_void _ symbols values x (y ∷ tokens) parameters-void v)
         (join (part-stay part.AfterVoid (λ k. not (is_right k)) _ symbols (leaf x ∷ values) y tokens void-other (not_from_false (is_right (kind_of y)) b)) inside)
 
+-- parameters, by what they begin with
 parameters-join : (symbols : List Symbol) (values others : List Written) (tokens left : List Token)
     → Reaches (at (symbol.Read part.Parameter ∷ some_parameters ++ symbols) values tokens) (at symbols others left)
     → Reaches (at (symbol.Read part.Parameters ∷ symbols) values tokens) (at symbols others left)

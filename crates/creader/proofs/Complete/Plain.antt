@@ -42,6 +42,7 @@ unfolding ready after_of kinds each every_kind fits before_end ends_open may_beg
     extenders operators_from is_statement has_reader any_accepts accepts keyword_number punctuator_number
 ready_check p = ready p
 
+-- what may stand behind a tree may stand behind its production
 pub node-after : (p : Production) (f : Forest) (kind : Kind) → may_follow (home p) (node p f) kind ≡ true → after_of p kind ≡ true
 unfolding after_of dangles
 node-after p f kind h = go (is_statement (home p)) (is_if_without_else p) _ (allows (follow (home p)) kind) h
@@ -51,6 +52,7 @@ node-after p f kind h = go (is_statement (home p)) (is_if_without_else p) _ (all
     go true false l a h = refl
     go false n l a h = h
 
+-- what may stand behind a statement may stand behind the one at its end
 later : (p : Production) (f : Forest) (kind : Kind) → ends_with_statement p ≡ true → is_statement (home p) ≡ true
     → may_follow (home p) (node p f) kind ≡ true → (not (last_dangles f) || allows (follow class.statement) kind) ≡ true
 unfolding dangles
@@ -66,6 +68,7 @@ later p f kind e s h =
     go false n e l a a' s e' same h = absurd (no s)
     go true n false l a a' s e same h = absurd (no e)
 
+-- and so the tokens do
 node-ends : (p : Production) (f : Forest) (tokens : List Token) → (not (ends_open (template p)) || (ends_with_statement p && is_statement (home p))) ≡ true
     → Begins (may_follow (home p) (node p f)) tokens → Ends (template p) f tokens
 unfolding dangles
@@ -134,13 +137,16 @@ unfoldable only_part : List Symbol → Part
 only_part (symbol.Read p ∷ []) = p
 only_part _ = read.Units
 
+-- the part by which its class is read
 unfoldable plain_part : Production → Part
 plain_part p = only_part (reader (home p))
 
+-- the first kind for which the test is true
 unfoldable first_kind : (Kind → Bool) → List Kind → Kind
 first_kind test [] = kind.End
 first_kind test (k ∷ ks) = if test k then k else first_kind test ks
 
+-- the rule that is chosen where it begins
 unfoldable plain_index : Production → ℕ
 plain_index p = chosen (rules (plain_part p)) (first_kind (may_begin (template p) (after_of p)) kinds)
 
@@ -148,9 +154,11 @@ plain_index p = chosen (rules (plain_part p)) (first_kind (may_begin (template p
 unfoldable pub agrees : Part → List Piece → (Kind → Bool) → ℕ → Bool
 agrees p pieces after i = every_kind (λ k. not (may_begin pieces after k) || nat_eq (chosen (rules p) k) i)
 
+-- its parts may stand before one another, and that rule is chosen wherever it may begin
 unfoldable plain_holds : Production → Bool
 plain_holds p = if is_plain p then ready p && agrees (plain_part p) (template p) (after_of p) (plain_index p) else true
 
+-- as is computed
 plain-holds : (p : Production) → plain_holds p ≡ true
 unfolding plain_holds is_plain ready_check agrees plain_part only_part plain_index first_kind chosen rules
 plain-holds make.Identifier = refl
@@ -169,29 +177,34 @@ unfoldable pub rule_for : List Piece → Production → Move × List Symbol
 rule_for (token t ∷ pieces) p = (move.Take, readers pieces ++ symbol.Reduce p ∷ [])
 rule_for pieces p = (move.Stay, readers pieces ++ symbol.Reduce p ∷ [])
 
+-- this rule is its right side
 unfoldable plain_rule : Production → Option (Move × List Symbol)
 plain_rule p = if is_plain p then shown (entry (plain_index p) (rules (plain_part p))) else None
 
 unfoldable plain_rule_for : Production → Option (Move × List Symbol)
 plain_rule_for p = if is_plain p then Some (rule_for (template p) p) else None
 
+-- as is computed
 plain-rule : (p : Production) → plain_rule p ≡ plain_rule_for p
 unfolding plain_rule plain_rule_for is_plain rule_for readers plain_part only_part plain_index first_kind after_of chosen rules any_accepts accepts
     keyword_number punctuator_number kinds may_begin firsts nullable template home reader level_reader follow allows is_statement entry
 plain-rule make.Identifier = refl
 plain-rule _ = refl
 
+-- its class is read by that part alone
 unfoldable plain_reader : Production → List Symbol
 plain_reader p = if is_plain p then reader (home p) else []
 
 unfoldable plain_reader_for : Production → List Symbol
 plain_reader_for p = if is_plain p then symbol.Read (plain_part p) ∷ [] else []
 
+-- as is computed
 plain-reader : (p : Production) → plain_reader p ≡ plain_reader_for p
 unfolding plain_reader plain_reader_for is_plain plain_part only_part home reader
 plain-reader make.Identifier = refl
 plain-reader _ = refl
 
+-- a rule that leaves the token, and one that takes it
 stay-join : (P : Part) (rule : Rule) (front symbols : List Symbol) (values : List Written) (x : Token) (tokens : List Token) (s : Symbol) {c : State}
     → choose (rules P) (kind_of x) ≡ Some rule → shape rule ≡ (move.Stay, front ++ s ∷ [])
     → Reaches (at (front ++ s ∷ symbols) values (x ∷ tokens)) c → Reaches (at (symbol.Read P ∷ symbols) values (x ∷ tokens)) c

@@ -29,6 +29,7 @@ use Rattle.creader.proofs.Complete.Sequence.{may_follow, reads-before, reads-fro
 use Rattle.creader.proofs.Complete.Rule.{rule_check, rule_shape, Chosen, part-take, part-stay, stay-at, made-step}
 use Rattle.creader.proofs.Complete.Deep.{Deep, Deeps, deep-known, Below, deep-below}
 
+-- some tokens
 abbrev pub is_star : Kind → Bool
 is_star = accepts (sign punctuator.Star)
 
@@ -38,6 +39,7 @@ is_qualifier = accepts terminal.Qualifier
 abbrev pub not_qualifier : Kind → Bool
 not_qualifier kind = not (is_qualifier kind)
 
+-- the productions that make pointers
 stars-list : makers class.stars ≡ make.NoPointers ∷ make.Star ∷ []
 unfolding makers kept productions under home is_wider class_number words_number operator_level assignment_class alone joined
 stars-list = refl
@@ -55,6 +57,7 @@ pub record Starred (tail after : Part) : Type 0 where
   pub starred : Chosen tail is_star move.Take (symbol.Read after ∷ [])
   pub bare : Chosen after not_qualifier move.Stay (symbol.Reduce make.Star ∷ symbol.Read tail ∷ [])
 
+-- among pointers, and in a parameter
 pub stars-tail : Starred part.StarsTail part.AfterStar
 unfolding rule_check rule_shape
 stars-tail = record {
@@ -69,6 +72,7 @@ parameter-tail = record {
   bare = record { index = 1; checked = refl; found = refl };
 }
 
+-- a star is no qualifier
 star-no-qualifier : (kind : Kind) → is_star kind ≡ true → not_qualifier kind ≡ true
 unfolding every_kind kinds each accepts keyword_number punctuator_number
 star-no-qualifier kind h = implied _ _ (at-kind (λ k. not (is_star k) || not_qualifier k) all kind) h
@@ -76,6 +80,7 @@ star-no-qualifier kind h = implied _ _ (at-kind (λ k. not (is_star k) || not_qu
     all : every_kind (λ k. not (is_star k) || not_qualifier k) ≡ true
     all = refl
 
+-- the same as tests
 unfoldable makes_stars : Production → Bool
 makes_stars make.NoPointers = true
 makes_stars make.Star = true
@@ -150,6 +155,7 @@ record Marked (tail after : Part) : Type 0 where
   starred : Chosen tail is_star move.Take (symbol.Read after ∷ [])
   marked : Chosen after is_qualifier move.Take (symbol.Read part.Qualifiers ∷ symbol.Reduce make.QualifiedPointer ∷ symbol.Read part.PointersTail ∷ [])
 
+-- behind stars, and behind pointers of which some are qualified
 stars-marked : Marked part.StarsTail part.AfterStar
 unfolding rule_check rule_shape
 stars-marked = record {
@@ -164,10 +170,12 @@ pointers-marked = record {
   marked = record { index = 0; checked = refl; found = refl };
 }
 
+-- a star without a qualifier behind these
 next-star : Chosen part.AfterNextStar not_qualifier move.Stay (symbol.Reduce make.NextPointer ∷ symbol.Read part.PointersTail ∷ [])
 unfolding rule_check rule_shape
 next-star = record { index = 1; checked = refl; found = refl }
 
+-- qualifiers stand before what is none
 qualifiers-may : (d : Written) (kind : Kind) → not_qualifier kind ≡ true → may_follow class.qualifiers d kind ≡ true
 unfolding is_statement follow allows any_accepts
 qualifiers-may d kind h = go (is_qualifier kind) h
@@ -204,6 +212,7 @@ next-reads c x m symbols values (y ∷ tokens) b =
     (join (part-stay part.AfterNextStar not_qualifier _ symbols (leaf x ∷ c ∷ values) y tokens next-star b)
     (made-step make.NextPointer (more c (more (leaf x) none)) (symbol.Read part.PointersTail ∷ symbols) values (y ∷ tokens) m))
 
+-- read from the first star on, with what may go on with them left to read
 abbrev Qualified : Written → Type 0
 Qualified w = (symbols : List Symbol) (values : List Written) (tokens : List Token) → Begins not_qualifier tokens
     → Reaches (at (symbol.Reduce make.NoPointers ∷ symbol.Read part.StarsTail ∷ symbols) values (spell w ++ tokens)) (at (symbol.Read part.PointersTail ∷ symbols) (w ∷ values) tokens)
@@ -255,6 +264,7 @@ qualified-read (node make.NextPointer (more c (more (leaf x) (more d f)))) st m 
 qualified-read (node make.NextPointer (more c (more (node q g) f))) st m deep symbols values tokens b = absurd m.3.0
 qualified-read (node p f) st m deep symbols values tokens b = absurd (no (qualified-makers p st))
 
+-- the rules at the beginning and the end
 pub pointers-first : Chosen part.Pointers (λ _. true) move.Stay (symbol.Reduce make.NoPointers ∷ symbol.Read part.StarsTail ∷ [])
 unfolding rule_check rule_shape
 pointers-first = record { index = 0; checked = refl; found = refl }
@@ -270,6 +280,7 @@ pointers-end : Chosen part.PointersTail not_star move.Stay []
 unfolding rule_check rule_shape
 pointers-end = record { index = 1; checked = refl; found = refl }
 
+-- what may stand behind pointers is neither a star nor a qualifier
 pointers-may : (w : Written) (kind : Kind) → may_follow class.pointers w kind ≡ true → (not_qualifier kind ≡ true) × (not_star kind ≡ true)
 unfolding is_statement follow allows any_accepts
 pointers-may w kind h = go (is_star kind) (is_qualifier kind) h

@@ -11,6 +11,7 @@ use Rattle.cgrammar.specs.declared.production.Production.TheVariants as make
 use Rattle.cgrammar.specs.Grammar.{Class, under, home, words_number}
 use Rattle.creader.proofs.Complete.Kinds.{entry}
 
+-- all productions
 unfoldable pub productions : List Production
 productions =
     make.Identifier ∷ make.Name ∷ make.Number ∷ make.Character ∷ make.Parenthesised ∷ make.Index ∷ make.CallFunction ∷ make.Call
@@ -51,7 +52,8 @@ productions =
     ∷ make.NextWord every.LengthInt kind.Int ∷ make.NextWord every.SignLengthInt kind.Sign ∷ make.NextWord every.SignLengthInt kind.Char
     ∷ make.NextWord every.SignLengthInt kind.Length ∷ make.NextWord every.SignLengthInt kind.Int ∷ []
 
-unfoldable operator_number : BinaryOperator → ℕ
+-- numbers of what stands in a production
+unfoldable pub operator_number : BinaryOperator → ℕ
 operator_number operator.Multiply = 0
 operator_number operator.Divide = 1
 operator_number operator.Remainder = 2
@@ -71,14 +73,14 @@ operator_number operator.BitOr = 15
 operator_number operator.And = 16
 operator_number operator.Or = 17
 
-unfoldable word_number : Word → ℕ
+unfoldable pub word_number : Word → ℕ
 word_number kind.Sign = 0
 word_number kind.Char = 1
 word_number kind.Length = 2
 word_number kind.Int = 3
 
 -- where a production stands among them
-unfoldable production_number : Production → ℕ
+unfoldable pub production_number : Production → ℕ
 production_number make.Identifier = 0
 production_number make.Name = 1
 production_number make.Number = 2
@@ -183,7 +185,8 @@ production_number (make.AssignWith o) = 117 + operator_number o
 production_number (make.FirstWord w) = 135 + word_number w
 production_number (make.NextWord all w) = 139 + (4 * words_number all + word_number w)
 
-production-entry : (p : Production) → entry (production_number p) productions ≡ Some p
+-- each stands at its number
+pub production-entry : (p : Production) → entry (production_number p) productions ≡ Some p
 unfolding entry productions production_number operator_number word_number words_number
 production-entry (make.Binary operator.Multiply) = refl
 production-entry (make.Binary _) = refl
@@ -208,10 +211,12 @@ abbrev pub In : Production → List Production → Type 0
 In p [] = ⊥
 In p (other ∷ others) = (p ≡ other) ⊎ In p others
 
+-- those for which the test is true
 unfoldable pub kept : (Production → Bool) → List Production → List Production
 kept test [] = []
 kept test (p ∷ ps) = if test p then p ∷ kept test ps else kept test ps
 
+-- what passes the test is kept
 in-kept : (test : Production → Bool) (n : ℕ) (ps : List Production) (p : Production) → entry n ps ≡ Some p → test p ≡ true → In p (kept test ps)
 unfolding entry kept
 in-kept test n [] p e h = cc
@@ -228,6 +233,7 @@ in-kept test n (other ∷ others) p e h = go n (test other) refl e (λ m e'. in-
 unfoldable pub makers : Class → List Production
 makers c = kept (λ p. under (home p) c) productions
 
+-- a tree that stands there is made by one of these
 pub in-makers : (p : Production) (c : Class) → under (home p) c ≡ true → In p (makers c)
 unfolding makers
 in-makers p c h = in-kept (λ p. under (home p) c) (production_number p) productions p (production-entry p) h

@@ -38,6 +38,7 @@ pub record Chosen (p : Part) (test : Kind → Bool) (act : Move) (body : List Sy
   pub checked : rule_check p test index ≡ true
   pub found : rule_shape p index ≡ Some (act, body)
 
+-- the rule that is chosen then
 pub chosen-rule : (p : Part) (test : Kind → Bool) (act : Move) (body : List Symbol) (kind : Kind) → Chosen p test act body → test kind ≡ true
     → (rule : Rule) × (choose (rules p) kind ≡ Some rule) × (rule.move ≡ act) × (rule.symbols ≡ body)
 unfolding rule_check rule_shape
@@ -83,11 +84,13 @@ made-step p f symbols values tokens m = let one = reduce-step p symbols (push f 
 
 -- The same steps are taken on the way to any state that has fewer symbols.
 module _ (front symbols : List Symbol) (values others : List Written) (left : List Token) where
+  -- one value is made
   pub back-reduce : (p : Production) (tokens : List Token) → Reaches (at (symbol.Reduce p ∷ front ++ symbols) values tokens) (at symbols others left)
       → Reaches (at (front ++ symbols) (reduce p values) tokens) (at symbols others left)
   unfolding step
   back-reduce p tokens reached = after-step refl reached (longer (symbol.Reduce p) front symbols)
 
+  -- a token that is to be taken is one that may stand there
   pub back-accepts : (t : Terminal) (x : Token) (tokens : List Token) → Reaches (at (symbol.Take t ∷ front ++ symbols) values (x ∷ tokens)) (at symbols others left)
       → accepts t (kind_of x) ≡ true
   unfolding step
@@ -97,6 +100,7 @@ module _ (front symbols : List Symbol) (values others : List Written) (left : Li
       go true e = e
       go false e = absurd (stuck (rw e refl) reached (longer (symbol.Take t) front symbols))
 
+  -- it is taken
   pub back-take-token : (t : Terminal) (x : Token) (tokens : List Token) → Reaches (at (symbol.Take t ∷ front ++ symbols) values (x ∷ tokens)) (at symbols others left)
       → Reaches (at (front ++ symbols) (leaf x ∷ values) tokens) (at symbols others left)
   unfolding step
@@ -104,6 +108,7 @@ module _ (front symbols : List Symbol) (values others : List Written) (left : Li
       let a = back-accepts t x tokens reached in
       after-step {b = at (front ++ symbols) (leaf x ∷ values) tokens} (rw a refl) reached (longer (symbol.Take t) front symbols)
 
+  -- a rule takes the token
   pub back-take : (p : Part) (test : Kind → Bool) (body : List Symbol) (x : Token) (tokens : List Token)
       → Chosen p test move.Take body → test (kind_of x) ≡ true
       → Reaches (at (symbol.Read p ∷ front ++ symbols) values (x ∷ tokens)) (at symbols others left)
@@ -114,6 +119,7 @@ module _ (front symbols : List Symbol) (values others : List Written) (left : Li
       let e = r.1 in let m = r.2 in let b = r.3 in
       after-step {b = at (body ++ front ++ symbols) (leaf x ∷ values) tokens} (rw (e, m, b, append_assoc) refl) reached (longer (symbol.Read p) front symbols)
 
+  -- a rule leaves the token
   pub back-stay : (p : Part) (test : Kind → Bool) (body : List Symbol) (x : Token) (tokens : List Token)
       → Chosen p test move.Stay body → test (kind_of x) ≡ true
       → Reaches (at (symbol.Read p ∷ front ++ symbols) values (x ∷ tokens)) (at symbols others left)
@@ -131,6 +137,7 @@ hungry (symbol.Reduce _ ∷ symbols) = hungry symbols
 hungry (symbol.Take _ ∷ symbols) = true
 hungry (symbol.Read _ ∷ symbols) = true
 
+-- without tokens they reach nothing
 pub no-tokens : (front symbols : List Symbol) (values others : List Written) (left : List Token) → hungry front ≡ true
     → Reaches (at (front ++ symbols) values []) (at symbols others left) → ⊥
 unfolding hungry step
@@ -145,6 +152,7 @@ abbrev stay_symbols : Move → List Symbol → List Symbol
 stay_symbols move.Take symbols = []
 stay_symbols move.Stay symbols = symbols
 
+-- the same of what is chosen, if a rule is
 abbrev rule_symbols : Option Rule → List Symbol → List Symbol
 rule_symbols None front = []
 rule_symbols (Some rule) front = stay_symbols rule.move (rule.symbols ++ front)
@@ -158,11 +166,13 @@ refuse (suc n) (symbol.Take t ∷ front) kind = not (accepts t kind)
 refuse (suc n) (symbol.Read p ∷ front) kind =
     is_none (choose (rules p) kind) || refuse n (rule_symbols (choose (rules p) kind) front) kind
 
+-- no symbols refuse nothing
 refuse-none : (n : ℕ) (kind : Kind) → refuse n [] kind ≡ true → ⊥
 unfolding refuse
 refuse-none zero kind h = no h
 refuse-none (suc n) kind h = no h
 
+-- what refuses a token reaches nothing
 refuse-reached : (n : ℕ) (front symbols : List Symbol) (values others : List Written) (x : Token) (tokens left : List Token)
     → refuse n front (kind_of x) ≡ true → Reaches (at (front ++ symbols) values (x ∷ tokens)) (at symbols others left) → ⊥
 unfolding refuse step
@@ -198,6 +208,7 @@ unfoldable pub refuse_check : List Symbol → (Kind → Bool) → Bool
 unfolding refuse choose every_kind kinds each rules words_rules any_accepts accepts keyword_number punctuator_number
 refuse_check front test = every_kind (λ k. not (test k) || refuse 24 front k)
 
+-- the same from what is computed
 pub refused : (front symbols : List Symbol) (values others : List Written) (test : Kind → Bool) (x : Token) (tokens left : List Token)
     → refuse_check front test ≡ true → test (kind_of x) ≡ true
     → Reaches (at (front ++ symbols) values (x ∷ tokens)) (at symbols others left) → ⊥

@@ -20,6 +20,7 @@ use Rattle.creader.proofs.Complete.Productions.{productions, kept, makers, In, i
 use Rattle.creader.proofs.Complete.Steps.{join, take-step, push}
 use Rattle.creader.proofs.Complete.Firsts.{may_begin, Begins, begins-as, implied, no, forest-begins}
 
+-- a token may stand behind a tree of the class
 abbrev pub may_follow : Class → Written → Kind → Bool
 may_follow c w kind = (is_statement c && not (dangles w)) || allows (follow c) kind
 
@@ -29,6 +30,7 @@ pub reads-before : (c : Class) (w : Written) → Reads c w → (symbols : List S
 reads-before c w r symbols values [] b = absurd b
 reads-before c w r symbols values (t ∷ tokens) b = r.reads symbols values t tokens b
 
+-- the same the other way round
 pub reads-from : (c : Class) (w : Written)
     → ((symbols : List Symbol) (values : List Written) (tokens : List Token) → Begins (may_follow c w) tokens
     → Reaches (at (reader c ++ symbols) values (spell w ++ tokens)) (at symbols (w ∷ values) tokens)) → Reads c w
@@ -46,6 +48,7 @@ before_end [] = true
 before_end (part class.optional_else ∷ []) = true
 before_end _ = false
 
+-- it ends with a statement
 unfoldable pub ends_open : List Piece → Bool
 ends_open [] = false
 ends_open (part c ∷ []) = is_statement c
@@ -63,6 +66,7 @@ fits (part c ∷ pieces) after = (has_reader c && ((is_statement c && before_end
 abbrev pub Ends : List Piece → Forest → List Token → Type 0
 Ends pieces f tokens = ends_open pieces ≡ true → Begins (λ kind. not (last_dangles f) || allows (follow class.statement) kind) tokens
 
+-- the same may stand behind what is a statement
 pub statement-follow : (c : Class) → is_statement c ≡ true → follow c ≡ follow class.statement
 unfolding is_statement follow
 statement-follow class.statement h = refl
@@ -74,10 +78,12 @@ data IsElse : Production → Type 0 where
   with_else : IsElse make.Else
   without_else : IsElse make.NoElse
 
+-- the two productions behind the first branch
 else-list : makers class.optional_else ≡ make.NoElse ∷ make.Else ∷ []
 unfolding makers kept productions under home is_wider class_number words_number operator_level assignment_class alone joined
 else-list = refl
 
+-- as a choice
 else-makers : (p : Production) → under (home p) class.optional_else ≡ true → IsElse p
 else-makers p h = go (rw else-list at (in-makers p class.optional_else h))
   where
@@ -86,10 +92,12 @@ else-makers p h = go (rw else-list at (in-makers p class.optional_else h))
     go (inr (inl e)) = rw e with_else
     go (inr (inr e)) = absurd e
 
+-- what may stand behind a statement, by whether it dangles
 statement-may : (c : Class) (w : Written) (kind : Kind) → is_statement c ≡ true → (not (dangles w) || allows (follow class.statement) kind) ≡ true
     → may_follow c w kind ≡ true
 statement-may c w kind s h = let same = statement-follow c s in rw (same, s) h
 
+-- a first branch may stand before its else, and before what stands behind an if that has none
 else-may : (c : Class) (w : Written) (q : Production) (h : Forest) (after : Kind → Bool) (tokens : List Token) → IsElse q → is_statement c ≡ true
     → Match (part c ∷ part class.optional_else ∷ []) (more w (more (node q h) none)) → Begins after tokens
     → Ends (part c ∷ part class.optional_else ∷ []) (more w (more (node q h) none)) tokens

@@ -17,6 +17,7 @@ use Rattle.cgrammar.specs.Text.{Written, leaf, node, Forest, none, more, Match}
 use Rattle.creader.specs.Machine.{State, at, Reaches, here, next, step, moved, gather, reduce}
 use Rattle.creader.proofs.Complete.Kinds.{entry}
 
+-- one way and then another
 pub join : {a b c : State} → Reaches a b → Reaches b c → Reaches a c
 join here q = q
 join (next e p) q = next e (join p q)
@@ -26,6 +27,7 @@ pub data First (a c : State) : Type 0 where
   stayed : a ≡ c → First a c
   went : {b : State} → step a.symbols a.values a.tokens ≡ Some b → Reaches b c → First a c
 
+-- each way begins so
 first : {a c : State} → Reaches a c → First a c
 first here = stayed refl
 first (next e p) = went e p
@@ -54,6 +56,7 @@ longer s front symbols e =
     let k : length (front ++ symbols) ≡ length front + length symbols = length-append front symbols in
     omega arith
 
+-- the steps forwards
 pub take-step : (t : Terminal) (symbols : List Symbol) (values : List Written) (token : Token) (tokens : List Token)
     → accepts t (kind_of token) ≡ true → Reaches (at (symbol.Take t ∷ symbols) values (token ∷ tokens)) (at symbols (leaf token ∷ values) tokens)
 unfolding step
@@ -75,6 +78,7 @@ unfoldable pub chosen : List Rule → Kind → ℕ
 chosen [] kind = 0
 chosen (rule ∷ others) kind = if any_accepts rule.on kind then 0 else suc (chosen others kind)
 
+-- it stands at its place
 choose-chosen : (rs : List Rule) (kind : Kind) → choose rs kind ≡ entry (chosen rs kind) rs
 unfolding choose chosen entry
 choose-chosen [] kind = refl
@@ -85,6 +89,7 @@ choose-chosen (rule ∷ others) kind = go (any_accepts rule.on kind) refl (choos
     go true e h = rw e refl
     go false e h = rw e h
 
+-- the same where the place is known
 pub choose-at : (p : Part) (kind : Kind) (i : ℕ) → nat_eq (chosen (rules p) kind) i ≡ true → choose (rules p) kind ≡ entry i (rules p)
 choose-at p kind i h = let e = eqb-true (chosen (rules p) kind) i h in rw e at (choose-chosen (rules p) kind)
 
@@ -93,6 +98,7 @@ unfoldable pub push : Forest → List Written → List Written
 push none values = values
 push (more w f) values = push f (w ∷ values)
 
+-- how many trees, and one forest before another
 unfoldable counted : Forest → ℕ → ℕ
 counted none n = n
 counted (more w f) n = counted f (suc n)
@@ -106,11 +112,13 @@ unfolding joined
 joined-none none = refl
 joined-none (more w f) = ap (more w) (joined-none f)
 
+-- they are gathered again
 gather-push : (f g : Forest) (n : ℕ) (values : List Written) → gather (counted f n) (push f values) g ≡ gather n values (joined f g)
 unfolding gather counted push joined
 gather-push none g n values = refl
 gather-push (more w f) g n values = gather-push f g (suc n) (w ∷ values)
 
+-- as many as the pieces that they match
 counted-match : (pieces : List Piece) (f : Forest) (n : ℕ) → Match pieces f → counted f n ≡ length pieces + n
 unfolding Match counted
 counted-match [] none n m = omega arith

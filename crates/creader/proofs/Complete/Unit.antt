@@ -30,9 +30,11 @@ use Rattle.creader.proofs.Complete.Rule.{rule_check, rule_shape, Chosen, part-ta
 abbrev rest : List Symbol
 rest = symbol.Read part.Pointers ∷ symbol.Take terminal.Name ∷ symbol.Reduce make.Identifier ∷ symbol.Read part.ExternalRest ∷ symbol.Reduce make.External ∷ []
 
+-- what a type without specifiers is read by
 abbrev base_type : List Symbol
 base_type = symbol.Read part.Base ∷ symbol.Read part.Qualifiers ∷ symbol.Reduce make.Based ∷ []
 
+-- some tokens
 abbrev is_volatile : Kind → Bool
 is_volatile = accepts (word keyword.Volatile)
 
@@ -45,6 +47,7 @@ is_register = accepts (word keyword.Register)
 abbrev is_brace : Kind → Bool
 is_brace = accepts (sign punctuator.LeftBrace)
 
+-- the rules by which units are read
 unit-volatile : Chosen part.Unit is_volatile move.Take (symbol.Read part.AfterVolatile ∷ [])
 unfolding rule_check rule_shape
 unit-volatile = record { index = 0; checked = refl; found = refl }
@@ -87,6 +90,7 @@ base-struct : Chosen part.Base is_struct move.Take (symbol.Take terminal.Name �
 unfolding rule_check rule_shape
 base-struct = record { index = 1; checked = refl; found = refl }
 
+-- what is still to be read behind volatile
 volatile-type : List Symbol
 volatile-type = symbol.Read part.Type ∷ symbol.Reduce make.Specified ∷ rest
 
@@ -109,6 +113,7 @@ volatile-join symbols values others x (y ∷ tokens) left v reached = go (is_reg
         join (part-take part.Unit is_volatile _ symbols values x (y ∷ tokens) unit-volatile v)
         (join (part-stay part.AfterVolatile (λ k. not (is_register k)) _ symbols (leaf x ∷ values) y tokens volatile-other (not_from_false (is_register (kind_of y)) r)) inside)
 
+-- what is still to be read behind a structure's name
 struct-type : List Symbol
 struct-type = symbol.Read part.Qualifiers ∷ symbol.Reduce make.Based ∷ rest
 
@@ -180,11 +185,13 @@ unit-join symbols values others (x ∷ tokens) left reached = go (is_volatile (k
         join (part-stay part.Unit (λ k. not (is_volatile k) && not (is_struct k)) _ symbols values x tokens unit-other
         (and_from _ _ (not_from_false _ e) (not_from_false _ e'))) reached
 
+-- An object or a function is read.
 pub external-reads : (f : Forest) → Match (template make.External) f → AllKnown f → Reads class.unit (node make.External f)
 unfolding ready_check template home reader readers
 external-reads f m known = reads-from class.unit (node make.External f) (λ symbols values tokens b.
     unit-join symbols values (node make.External f ∷ values) _ tokens (expanded make.External f refl m known symbols values tokens b))
 
+-- what is still to be read of a structure
 members : List Symbol
 members = symbol.Read part.StructMember ∷ symbol.Read part.MoreMembers ∷ symbol.Take (sign punctuator.RightBrace) ∷ symbol.Take (sign punctuator.Semicolon)
     ∷ symbol.Reduce make.StructUnit ∷ []
@@ -225,11 +232,13 @@ structure-join symbols values others (x ∷ y ∷ z ∷ tokens) left r =
     (join (reduce-step make.Identifier (symbol.Read part.AfterTag ∷ symbols) (leaf y ∷ leaf x ∷ values) (z ∷ tokens))
     (join (part-take part.AfterTag is_brace _ symbols named z tokens tag-brace b) r4)))
 
+-- A structure is read.
 pub struct-unit-reads : (f : Forest) → Match (template make.StructUnit) f → AllKnown f → Reads class.unit (node make.StructUnit f)
 unfolding ready_check template home reader readers structure tag-name tag-body members
 struct-unit-reads f m known = reads-from class.unit (node make.StructUnit f) (λ symbols values tokens b.
     structure-join symbols values (node make.StructUnit f ∷ values) _ tokens (expanded make.StructUnit f refl m known symbols values tokens b))
 
+-- what is still to be read of a register
 register-body : List Symbol
 register-body = symbol.Read part.RegisterType ∷ symbol.Take terminal.RegisterName ∷ symbol.Take (sign punctuator.Semicolon) ∷ symbol.Reduce make.RegisterUnit ∷ []
 
@@ -252,6 +261,7 @@ register-join symbols values others (x ∷ y ∷ tokens) left r =
     join (part-take part.Unit is_volatile _ symbols values x (y ∷ tokens) unit-volatile v)
     (join (part-take part.AfterVolatile is_register _ symbols (leaf x ∷ values) y tokens volatile-register g) r2)
 
+-- A register is read.
 pub register-unit-reads : (f : Forest) → Match (template make.RegisterUnit) f → AllKnown f → Reads class.unit (node make.RegisterUnit f)
 unfolding ready_check template home reader readers register-body
 register-unit-reads f m known = reads-from class.unit (node make.RegisterUnit f) (λ symbols values tokens b.

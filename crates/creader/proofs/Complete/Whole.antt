@@ -29,6 +29,7 @@ use Rattle.creader.proofs.Complete.Parameters.{void-reads, some-reads}
 use Rattle.creader.proofs.Complete.Parameter.{parameter-reads}
 use Rattle.creader.proofs.Complete.Arrays.{array-reads}
 
+-- it is read as each class where it stands
 abbrev AsEach : Production → Forest → Type 0
 AsEach p f = (c : Class) → under (home p) c ≡ true → has_reader c ≡ true → Reads c (node p f)
 
@@ -50,6 +51,7 @@ narrow class.stars = false
 narrow class.qualified = false
 narrow _ = true
 
+-- nothing else is wanted where such a tree stands
 narrow-wider : (a c : Class) → narrow a ≡ true → is_wider a c ≡ true → ⊥
 unfolding narrow is_wider
 narrow-wider (class.level _) c n h = no n
@@ -66,12 +68,15 @@ narrow-each p f n r c u has = go (under-ways (home p) c u)
     go (inl same) = rw same at r
     go (inr wider) = absurd (narrow-wider (home p) c n wider)
 
+-- so it is enough to read it as its own class
 narrow-known : (p : Production) (f : Forest) → is_expression p ≡ false → narrow (home p) ≡ true → Reads (home p) (node p f) → Known (node p f)
 narrow-known p f e n r = known-other p f e (narrow-each p f n r)
 
+-- plain productions are such
 unfoldable plain_is_narrow : Production → Bool
 plain_is_narrow p = if is_plain p then not (is_expression p) && narrow (home p) else true
 
+-- as is computed
 plain-is-narrow : (p : Production) → plain_is_narrow p ≡ true
 unfolding plain_is_narrow is_plain narrow home is_expression is_level
 plain-is-narrow make.Identifier = refl
@@ -89,6 +94,7 @@ unread (class.words _) = true
 unread class.nothing = true
 unread _ = false
 
+-- so nothing is to be shown of them
 unread-wider : (a c : Class) → unread a ≡ true → is_wider a c ≡ true → has_reader c ≡ true → ⊥
 unfolding unread is_wider has_reader reader
 unread-wider (class.words _) class.integer e w h = no h
@@ -118,6 +124,7 @@ is_pointers class.stars = true
 is_pointers class.qualified = true
 is_pointers _ = false
 
+-- they stand as pointers
 pointers-wider : (a c : Class) → is_pointers a ≡ true → is_wider a c ≡ true → c ≡ class.pointers
 unfolding is_pointers is_wider
 pointers-wider class.stars class.pointers e w = refl
@@ -153,6 +160,7 @@ assignment-ways operator.And e = refl
 assignment-ways operator.Or e = refl
 assignment-ways _ e = absurd (no (sym e))
 
+-- words behind others are words, or of no class
 next-word-unread : (all : Words) (w : Word) → unread (home (make.NextWord all w)) ≡ true
 unfolding unread home joined
 next-word-unread every.Sign word.Sign = refl
@@ -189,6 +197,7 @@ special-known make.Parameter f e e' m deep = narrow-known make.Parameter f e ref
 special-known make.ArrayParameter f e e' m deep = narrow-known make.ArrayParameter f e refl (array-reads f m (deeps-known f deep))
 special-known p f e e' m deep = absurd (no (sym (or_from (is_expression p) (is_plain p) e e')))
 
+-- What is known of the parts makes the whole known.
 production-known : (p : Production) (f : Forest) → Match (template p) f → Deeps f → Known (node p f)
 production-known p f m deep = ways (is_expression p) (is_plain p) refl refl
   where

@@ -58,6 +58,7 @@ record Further (all : Words) (w : Word) : Type 0 where
   before_is : before all w ≡ class.words earlier
   chosen : Chosen (part.Words earlier) (accepts (word_token w)) move.Take (symbol.Reduce (make.NextWord all w) ∷ symbol.Read (part.Words all) ∷ [])
 
+-- each further word has such a rule
 further : (all : Words) (w : Word) (ws : Words) → joined all w ≡ class.words ws → (all ≡ ws) × Further all w
 unfolding joined before word_token rule_check rule_shape
 further every.SignChar kind.Char ws h = (cc, record { earlier = every.Sign; before_is = refl; chosen = record { index = 0; checked = refl; found = refl } })
@@ -86,6 +87,7 @@ words-end every.SignInt = record { index = 1; checked = refl; found = refl }
 words-end every.LengthInt = record { index = 1; checked = refl; found = refl }
 words-end every.SignLengthInt = record { index = 0; checked = refl; found = refl }
 
+-- the productions that make words
 unfoldable is_words : Class → Bool
 is_words (class.words _) = true
 is_words _ = false
@@ -108,6 +110,7 @@ words-added : (p : Production) (ws : Words) → home p ≡ class.words ws → ad
 unfolding is_words
 words-added p ws e = adds-word p (ap is_words e)
 
+-- the first word
 first-reads : (w : Word) (f : Forest) (ws : Words) → alone w ≡ ws → Match (template (make.FirstWord w)) f
     → (symbols : List Symbol) (values : List Written) (tokens : List Token)
     → Reaches (at (symbol.Read part.Base ∷ symbols) values (spells f ++ tokens))
@@ -122,6 +125,7 @@ first-reads w (more (leaf x) none) ws e m symbols values tokens =
     let whole = join front (made-step (make.FirstWord w) (more (leaf x) none) left values tokens m) in
     rw e at whole
 
+-- a further word
 further-reads : (all : Words) (w : Word) (c : Written) (x : Token) (ws : Words) (f : Further all w) → all ≡ ws
     → Match (template (make.NextWord all w)) (more c (more (leaf x) none))
     → (symbols : List Symbol) (values : List Written) (tokens : List Token)
@@ -155,6 +159,7 @@ words-read (node (make.NextWord all w) (more c (more (leaf x) (more d f)))) ws s
 words-read (node (make.NextWord all w) (more c (more (node q g) f))) ws s m symbols values tokens = absurd m.3.0
 words-read (node p f) ws s m symbols values tokens = absurd (no (words-added p ws (words-home (home p) ws s)))
 
+-- nothing is an integer but words
 unfoldable is_integer : Class → Bool
 is_integer class.integer = true
 is_integer _ = false
@@ -184,6 +189,7 @@ integer-words class.stars h = absurd (no h)
 integer-words class.qualified h = absurd (no h)
 integer-words _ h = absurd (no h)
 
+-- what stands as an integer is some words
 integer-home : (p : Production) → under (home p) class.integer ≡ true → (ws : Words) × (home p ≡ class.words ws)
 unfolding is_integer
 integer-home p u = go (under-ways (home p) class.integer u)
@@ -195,6 +201,7 @@ integer-home p u = go (under-ways (home p) class.integer u)
 is-words : (p : Production) (ws : Words) → home p ≡ class.words ws → under (home p) (class.words ws) ≡ true
 is-words p ws e = rw e (same-under (class.words ws))
 
+-- no word stands behind them
 ended : (ws : Words) (w : Written) (symbols : List Symbol) (values : List Written) (tokens : List Token) → Begins (may_follow class.base w) tokens
     → Reaches (at (symbol.Read (part.Words ws) ∷ symbols) values tokens) (at symbols values tokens)
 unfolding is_statement follow allows
