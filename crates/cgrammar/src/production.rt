@@ -151,3 +151,120 @@ pub enum Production {
     NextUnit,
     Source,
 }
+
+impl Production {
+    ghost use Rattle.std.specs.Prelude.{◌≡◌, length};
+    ghost use Rattle.cgrammar.specs.Grammar.{template};
+
+    /// How many parts stand on its right side, tokens among them.
+    #[tactic(auto, unfolding(crate::specs::Grammar::template))]
+    pub fn parts(self) -> usize
+        ensures { result ≡ length (template self) }
+    {
+        match self {
+            Production::NoArguments
+            | Production::EndArguments
+            | Production::NoExpression
+            | Production::NoQualifiers
+            | Production::NoPointers
+            | Production::NoLengths
+            | Production::EndDeclarators
+            | Production::EndMembers
+            | Production::NoLocation
+            | Production::NoInitial
+            | Production::EndInits
+            | Production::TrailingComma
+            | Production::EndInitDeclarators
+            | Production::NoElse
+            | Production::EndItems
+            | Production::NoParameters
+            | Production::EndParameters
+            | Production::EndUnits => 0,
+            Production::Identifier
+            | Production::Name
+            | Production::Number
+            | Production::Character
+            | Production::SomeExpression
+            | Production::VoidBase
+            | Production::StandardBase
+            | Production::IntegerBase
+            | Production::FirstWord(_)
+            | Production::InitialExpression
+            | Production::ForObject
+            | Production::RegionName
+            | Production::RegisterUint32
+            | Production::PrototypeEnd
+            | Production::VoidParameters => 1,
+            Production::PostIncrement
+            | Production::PostDecrement
+            | Production::PreIncrement
+            | Production::PreDecrement
+            | Production::Prefix
+            | Production::SizeofExpression
+            | Production::SomeArguments
+            | Production::TypeName
+            | Production::Specified
+            | Production::Based
+            | Production::Qualified
+            | Production::StructBase
+            | Production::NextWord(_, _)
+            | Production::Star
+            | Production::NextPointer
+            | Production::NextMember
+            | Production::Initial
+            | Production::CommaInits
+            | Production::NextInit
+            | Production::ExpressionStatement
+            | Production::Else
+            | Production::ForExpression
+            | Production::Break
+            | Production::Continue
+            | Production::NextObject
+            | Production::NextStatement
+            | Production::UnsignedInt
+            | Production::SomeParameters
+            | Production::NextUnit
+            | Production::Source => 2,
+            Production::Parenthesised
+            | Production::Member
+            | Production::Arrow
+            | Production::Binary(_)
+            | Production::Assign
+            | Production::AssignWith(_)
+            | Production::Comma
+            | Production::NextArgument
+            | Production::Declarator
+            | Production::NextDeclarator
+            | Production::InitDeclarator
+            | Production::NextInitDeclarator
+            | Production::Block
+            | Production::Return
+            | Production::FunctionBody
+            | Production::NextParameter => 3,
+            Production::Index
+            | Production::CallFunction
+            | Production::Call
+            | Production::SizeofType
+            | Production::Cast
+            | Production::QualifiedPointer
+            | Production::Length
+            | Production::StructMember
+            | Production::Braced
+            | Production::LocalObject
+            | Production::External
+            | Production::FunctionRest
+            | Production::Parameter => 4,
+            Production::Conditional
+            | Production::While
+            | Production::RegisterUnit
+            | Production::ObjectRest
+            | Production::ArrayParameter => 5,
+            Production::If => 6,
+            Production::Do
+            | Production::Region
+            | Production::StructUnit => 7,
+            Production::For => 8,
+            Production::Location => 9,
+        }
+    }
+}

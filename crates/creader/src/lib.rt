@@ -2,5 +2,7 @@
 #![tactic(auto)]
 
 mod laws;
+mod reader;
 
 pub use laws::{accepted_is_text, text_is_accepted};
+pub use reader::{Entry, Progress, Reader};
