@@ -1,3 +1,5 @@
 pub mod Moved
+pub mod Reduced
 pub mod Represents
+pub mod Simulated
 pub mod Weight

@@ -31,13 +31,13 @@ pub record Represents (h : Held) (values : List Written) : Type 0 where
   pub place : h.place ≡ width (turned values none)
 
 -- gathering leaves the parts in order
-turned-gather : (n : ℕ) (values : List Written) (parts : Forest) → let g = gather n values parts in turned values parts ≡ turned g.1 g.0
+pub turned-gather : (n : ℕ) (values : List Written) (parts : Forest) → let g = gather n values parts in turned values parts ≡ turned g.1 g.0
 unfolding gather turned
 turned-gather zero values parts = refl
 turned-gather (suc n) [] parts = refl
 turned-gather (suc n) (value ∷ values) parts = turned-gather n values (more value parts)
 
-width-turned : (values : List Written) (parts : Forest) → width (turned values parts) ≡ width (turned values none) + width parts
+pub width-turned : (values : List Written) (parts : Forest) → width (turned values parts) ≡ width (turned values none) + width parts
 unfolding turned width
 width-turned [] parts = sym (zero-add _)
 width-turned (value ∷ values) parts =
@@ -53,7 +53,7 @@ width-more : (value : Written) (values : List Written) → width (turned values 
 unfolding width
 width-more value values = omega (arith, width-turned values (more value none), length-append (spell value) [])
 
-entries-turned : (values : List Written) (parts : Forest)
+pub entries-turned : (values : List Written) (parts : Forest)
     → entries_of 0 (turned values parts) ≡ entries_of 0 (turned values none) ++ entries_of (width (turned values none)) parts
 unfolding turned width entries entries_of
 entries-turned [] parts = refl
@@ -66,7 +66,7 @@ entries-turned (value ∷ values) parts =
     ∙ ap (λ n. (old ++ (entries before value ++ [])) ++ entries_of n parts) (sym (width-more value values))
     ∙ ap (λ e. e ++ entries_of behind parts) (sym (entries-turned values (more value none)))
 
-firsts-turned : (values : List Written) (parts : Forest)
+pub firsts-turned : (values : List Written) (parts : Forest)
     → firsts_of 0 (turned values parts) ≡ firsts_of 0 (turned values none) ++ firsts_of (width (turned values none)) parts
 unfolding turned width firsts_of
 firsts-turned [] parts = refl
@@ -80,17 +80,17 @@ firsts-turned (value ∷ values) parts =
     ∙ ap (λ e. e ++ firsts_of behind parts) (sym (firsts-turned values (more value none)))
 
 -- how many parts there are
-unfoldable count : Forest → ℕ
+unfoldable pub count : Forest → ℕ
 count none = 0
 count (more _ parts) = suc (count parts)
 
-length-firsts : (at : ℕ) (parts : Forest) → length (firsts_of at parts) ≡ count parts
+pub length-firsts : (at : ℕ) (parts : Forest) → length (firsts_of at parts) ≡ count parts
 unfolding firsts_of count
 length-firsts at none = refl
 length-firsts at (more written parts) = ap suc (length-firsts (at + length (spell written)) parts)
 
 -- the last n parts are gathered, or all, if there are fewer
-count-gather : (n : ℕ) (values : List Written) (parts : Forest) → let g = gather n values parts in
+pub count-gather : (n : ℕ) (values : List Written) (parts : Forest) → let g = gather n values parts in
     (count g.0 ≡ count parts + (length values - length g.1)) × (length g.1 ≡ length values - n) × (length g.1 ≤ length values)
 unfolding gather count
 count-gather zero values parts = (omega arith, omega arith, omega arith)
@@ -98,7 +98,7 @@ count-gather (suc n) [] parts = (omega arith, omega arith, omega arith)
 count-gather (suc n) (value ∷ values) parts =
     let rest = count-gather n values (more value parts) in (omega arith, omega arith, omega arith)
 
-count-turned : (values : List Written) (parts : Forest) → count (turned values parts) ≡ length values + count parts
+pub count-turned : (values : List Written) (parts : Forest) → count (turned values parts) ≡ length values + count parts
 unfolding turned count
 count-turned [] parts = sym (zero-add _)
 count-turned (value ∷ values) parts = omega (arith, count-turned values (more value parts))
