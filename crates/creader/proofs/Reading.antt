@@ -1,5 +1,6 @@
 pub mod Moved
 pub mod Reduced
 pub mod Represents
+pub mod Run
 pub mod Simulated
 pub mod Weight

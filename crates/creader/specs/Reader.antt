@@ -9,6 +9,7 @@ use Rattle.cgrammar.specs.declared.part.Symbol.TheVariants as symbol
 use Rattle.cgrammar.specs.Terminal.{accepts}
 use Rattle.cgrammar.specs.Grammar.{template}
 use Rattle.cgrammar.specs.Rules.{Rule, rules, choose}
+use Rattle.creader.specs.Machine.{start}
 use Rattle.creader.specs.declared.reader.Entry.{Entry}
 use Rattle.creader.specs.declared.reader.Reader.{Reader}
 use Rattle.creader.specs.declared.reader.Progress.{Progress}
@@ -22,6 +23,9 @@ pub record Held : Type 0 where
 
 abbrev pub held : Reader → Held
 held reader = record { symbols = reader.symbols; firsts = reader.firsts.items; entries = reader.entries.items; place = reader.place }
+
+abbrev pub at_start : Held
+at_start = record { symbols = (start []).symbols; firsts = []; entries = []; place = 0 }
 
 -- a token is a value, which begins where it stands
 abbrev pub taken : Held → Held

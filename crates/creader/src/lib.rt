@@ -1,8 +1,12 @@
 //! Reading a source by the rules of the grammar.
 #![tactic(auto)]
 
+mod fault;
 mod laws;
+mod read;
 mod reader;
 
+pub use fault::ReadFault;
 pub use laws::{accepted_is_text, text_is_accepted};
-pub use reader::{Entry, Progress, Reader};
+pub use read::read_entries;
+pub use reader::Entry;

@@ -2,7 +2,7 @@
 ghost use Rattle.std.specs.Prelude.{◌≡◌, ◌++◌, List, OnOk, IfOk};
 ghost use Rattle.creader.specs.Reader as specs;
 
-use cgrammar::{Kind, Move, Production, Rule, Symbol, rule};
+use cgrammar::{Kind, Move, Part, Production, Rule, Symbol, Terminal, rule};
 use std::alloc::{AllocError, Global};
 use std::collections::LinkedList;
 
@@ -44,6 +44,24 @@ impl Reader {
     ghost use Rattle.std.specs.Prelude.{◌≡◌, ◌+◌, ◌<◌, ◌^◌, ◌++◌, List, OnOk, IfOk};
     ghost use Rattle.cgrammar.specs.Rules.{chosen};
     ghost use Rattle.creader.specs.Reader as specs;
+
+    /// At the beginning of a source.
+    pub fn new(alloc: Global) -> Result<Self, AllocError>
+        ensures { IfOk result (λ reader. specs.held reader ≡ specs.at_start) }
+    {
+        let mut reader = Reader {
+            symbols: LinkedList::new(alloc),
+            firsts: Vec::new(alloc),
+            entries: Vec::new(alloc),
+            place: 0,
+        };
+        reader.push(&[
+            Symbol::Read(Part::Units),
+            Symbol::Take(Terminal::End),
+            Symbol::Reduce(Production::Source),
+        ])?;
+        Ok(reader)
+    }
 
     fn take(&mut self) -> Result<(), AllocError>
         requires { self.old.place < 2 ^ 32 }
@@ -120,7 +138,7 @@ impl Reader {
     }
 
     /// Takes a token of this kind, if it can stand here.
-    fn feed(&mut self, kind: Kind) -> Result<bool, AllocError>
+    pub fn feed(&mut self, kind: Kind) -> Result<bool, AllocError>
         requires { self.old.place < 2 ^ 32 }
         ensures { IfOk result (λ taken. specs.Feeds kind taken (specs.held self.old) (specs.held self.new)) }
     {
@@ -134,7 +152,7 @@ impl Reader {
     }
 
     /// Does what is left to do without a token, and says whether that was all.
-    fn finish(&mut self) -> Result<bool, AllocError>
+    pub fn finish(&mut self) -> Result<bool, AllocError>
         ensures { IfOk result (λ ended. specs.finished (specs.held self.old).symbols (specs.held self.old) ≡ (ended, specs.held self.new)) }
     {
         while let Some(symbol) = self.symbols.pop_front() {

@@ -20,13 +20,13 @@ use Rattle.creader.proofs.Reading.Represents.{Represents, represents-token}
 use Rattle.creader.proofs.Reading.Reduced.{represents-reduced}
 
 -- the machine's step for each progress
-pub Simulated : Progress → Held → Token → List Token → Option State → Type 0
+unfoldable pub Simulated : Progress → Held → Token → List Token → Option State → Type 0
 Simulated progress.Moved h token tokens result = (values : List Written) × (result ≡ Some (at h.symbols values (token ∷ tokens))) × Represents h values
 Simulated progress.Taken h token tokens result = (values : List Written) × (result ≡ Some (at h.symbols values tokens)) × Represents h values
 Simulated progress.Stuck h token tokens result = result ≡ None
 
 -- the symbols don't count
-with-symbols : (symbols : List Symbol) (h : Held) (values : List Written) → Represents h values → Represents (record h { symbols = symbols }) values
+pub with-symbols : (symbols : List Symbol) (h : Held) (values : List Written) → Represents h values → Represents (record h { symbols = symbols }) values
 with-symbols symbols h values r = record { firsts = r.firsts; entries = r.entries; place = r.place }
 
 by-move : (way : Move) (h : Held) (values : List Written) (token : Token) (tokens : List Token) → Represents h values
