@@ -1,4 +1,5 @@
 pub mod Moved
+pub mod Place
 pub mod Reduced
 pub mod Represents
 pub mod Run
