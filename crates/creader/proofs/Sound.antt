@@ -1,3 +1,4 @@
 pub mod Kinds
 pub mod Order
 pub mod Signature
+pub mod Meaning

@@ -1,5 +1,5 @@
 -- What each part goes on with, and what it leaves in place of that: every rule keeps to it.
-use Rattle.std.proofs.Common.{◌≡◌, ℕ, Bool, true, false, ◌&&◌, ◌||◌, map, List, [], ◌∷◌, ◌++◌, Option, Some, None, refl}
+use Rattle.std.proofs.Common.{◌≡◌, ℕ, Bool, true, false, ◌&&◌, ◌||◌, map, List, [], ◌∷◌, ◌++◌, Option, Some, None, if◌then◌else◌, refl}
 use Rattle.std.specs.List.{list_all}
 use Rattle.csyn.specs.declared.keyword.Keyword.TheVariants as keyword
 use Rattle.csyn.specs.declared.punctuator.Punctuator.TheVariants as punctuator
@@ -129,7 +129,7 @@ exit part.MoreParameters = class.more_parameters
 unfoldable pub strip : List Piece → List Piece → Option (List Piece)
 strip [] sorts = Some sorts
 strip (wanted ∷ others) [] = None
-strip (wanted ∷ others) (sort ∷ sorts) = elim (below sort wanted) [ true ↦ strip others sorts | false ↦ None ]
+strip (wanted ∷ others) (sort ∷ sorts) = if below sort wanted then strip others sorts else None
 
 -- the first list backwards, and then the second
 unfoldable pub turned : List Piece → List Piece → List Piece
