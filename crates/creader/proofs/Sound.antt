@@ -2,3 +2,4 @@ pub mod Kinds
 pub mod Order
 pub mod Signature
 pub mod Meaning
+pub mod Else
