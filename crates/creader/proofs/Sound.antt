@@ -3,3 +3,4 @@ pub mod Order
 pub mod Signature
 pub mod Meaning
 pub mod Else
+pub mod Kept

@@ -48,7 +48,7 @@ Upon-map [] P Q f values u = f values u
 Upon-map (sort ∷ sorts) P Q f [] u = absurd u
 Upon-map (sort ∷ sorts) P Q f (value ∷ values) u = (u.0, u.1, Upon-map sorts P Q f values u.2)
 
-if_some : {A : Type 0} (b : Bool) (o : Option A) (x : A) → (if b then o else None) ≡ Some x → (b ≡ true) × (o ≡ Some x)
+pub if_some : {A : Type 0} (b : Bool) (o : Option A) (x : A) → (if b then o else None) ≡ Some x → (b ≡ true) × (o ≡ Some x)
 if_some true o x e = (refl, e)
 if_some false o x e = absurd (none-some x e)
 

@@ -149,13 +149,15 @@ types c (symbol.Read p ∷ symbols) sorts = at_rest (strip (entry p) sorts) (λ 
 types c (symbol.Reduce p ∷ symbols) sorts =
     at_rest (strip (turned (template p) []) sorts) (λ rest. types c symbols (class.part (home p) ∷ rest))
 
-unfoldable pub rule_keeps : Part → Rule → Bool
-rule_keeps p rule = elim rule.move [
-      move.Take ↦ list_all (λ t. types (exit p) rule.symbols (class.token t ∷ entry p)) rule.on
-    | move.Stay ↦ types (exit p) rule.symbols (entry p) ]
+unfoldable pub move_keeps : Part → Move → List Terminal → List Symbol → Bool
+move_keeps p move.Take on symbols = list_all (λ t. types (exit p) symbols (class.token t ∷ entry p)) on
+move_keeps p move.Stay on symbols = types (exit p) symbols (entry p)
+
+abbrev pub rule_keeps : Part → Rule → Bool
+rule_keeps p rule = move_keeps p rule.move rule.on rule.symbols
 
 unfoldable pub keeps : Part → Bool
-unfolding rules chain_rules chain_tail_rules words_rules accepts keyword_number punctuator_number under is_wider class_number words_number operator_level operator_token assignment_class assignment_token word_token alone before home template keywords punctuators plain_kinds every_kind covered below chain_level entry exit strip turned types rule_keeps
+unfolding rules chain_rules chain_tail_rules words_rules accepts keyword_number punctuator_number under is_wider class_number words_number operator_level operator_token assignment_class assignment_token word_token alone before home template keywords punctuators plain_kinds every_kind covered below chain_level entry exit strip turned types move_keeps
 keeps p = list_all (rule_keeps p) (rules p)
 
 pub each-keeps : (p : Part) → keeps p ≡ true
