@@ -42,12 +42,13 @@ in_node production parts behind c (inr e) last = last (and_parts _ _ e).1
 -- what dangles stands before no else
 mutual
   unfolding Clear Clears dangles last_dangles
+
   dangles-Clear : (written : Written) (behind : List Token) → Clear written behind → dangles written ≡ true
       → starts_with_else behind ≡ false
   dangles-Clear (leaf _) behind c d = absurd (false≢true d)
   dangles-Clear (node production parts) behind c d =
       in_node production parts behind c (or_cases (is_if_without_else production) (ends_with_statement production && last_dangles parts) d)
-        (λ e. last-Clears parts behind c.1 e)
+      (λ e. last-Clears parts behind c.1 e)
 
   last-Clears : (parts : Forest) (behind : List Token) → Clears parts behind → last_dangles parts ≡ true → starts_with_else behind ≡ false
   last-Clears none behind c d = absurd (false≢true d)
@@ -66,7 +67,7 @@ begins-starts : (pieces : List Piece) (parts : Forest) (behind : List Token) →
 unfolding Shape IsShaped begins_with_else
 begins-starts (piece ∷ pieces) (more (node make.Else inner) parts) behind s b =
     subst (λ x. starts_with_else x ≡ true) (sym (append_assoc (spells inner) (spells parts) behind))
-      (else-starts inner (spells parts ++ behind) s.1)
+    (else-starts inner (spells parts ++ behind) s.1)
 begins-starts [] (more (node make.Else inner) parts) behind s b = absurd s
 begins-starts _ _ behind s b = absurd (false≢true b)
 
@@ -78,15 +79,19 @@ stands_clear pieces written parts behind s c b = false_from_ne_true (dangles wri
 -- both invariants together are properness
 mutual
   unfolding Clear Clears IsShaped Shape IsProper Match
+
   pub proper : (written : Written) (behind : List Token) → IsShaped written → Clear written behind → IsProper written
   proper (leaf _) behind s c = tt
   proper (node production parts) behind s c = proper-parts (template production) parts behind s c.1
 
   proper-parts : (pieces : List Piece) (parts : Forest) (behind : List Token) → Shape pieces parts → Clears parts behind → Match pieces parts
   proper-parts [] none behind s c = tt
-  proper-parts (piece ∷ pieces) (more written parts) behind s c =
-      (s.0, proper written (spells parts ++ behind) s.1 c.0, stands_clear pieces written parts behind s.2 c.0,
-        proper-parts pieces parts behind s.2 c.1)
+  proper-parts (piece ∷ pieces) (more written parts) behind s c = (
+    s.0,
+    proper written (spells parts ++ behind) s.1 c.0,
+    stands_clear pieces written parts behind s.2 c.0,
+    proper-parts pieces parts behind s.2 c.1,
+  )
   proper-parts _ _ behind s c = absurd s
 
 -- what the gathering of the last values keeps
@@ -100,7 +105,7 @@ gather-clear zero values parts behind c v = (c, v)
 gather-clear (suc n) [] parts behind c v = (c, tt)
 gather-clear (suc n) (value ∷ values) parts behind c v =
     gather-clear n values (more value parts) behind (v.0, c)
-      (subst (ClearAll values) (sym (append_assoc (spell value) (spells parts) behind)) v.1)
+    (subst (ClearAll values) (sym (append_assoc (spell value) (spells parts) behind)) v.1)
 
 -- making one value of the last ones, where an if without an else is made before no else
 pub reduce-clear : (p : Production) (values : List Written) (behind : List Token)

@@ -24,7 +24,7 @@ use Rattle.cgrammar.specs.Grammar as class
 use Rattle.cgrammar.specs.Rules.{Rule, rules, chain_rules, chain_tail_rules, words_rules, any_accepts, choose}
 use Rattle.cgrammar.specs.Text.{Written, leaf, spell, is_if_without_else, IsText}
 use Rattle.creader.specs.Machine.{State, at, moved, follow_rule, step, start, reduce, Reaches, here, next}
-use Rattle.creader.proofs.Sound.Signature.{entry, exit, types, move_keeps, rule_keeps, keeps, each-keeps}
+use Rattle.creader.proofs.Sound.Signature.{entry, exit, types, move_keeps, rule_keeps, keeps, each-keeps, start-types}
 use Rattle.creader.proofs.Sound.Meaning.{if_some, IsShaped, Good, Upon, Gives, run}
 use Rattle.creader.proofs.Sound.Else.{starts_with_else, ClearAll, Clear, reduce-clear, spelled, reduce-spelled, proper}
 
@@ -103,7 +103,7 @@ choose-passes test [] kind rule h e = absurd (none-some rule e)
 choose-passes test (first ∷ others) kind rule h e =
     let k = and_parts (test first) (list_all test others) h in
     chosen-passes test first rule (choose others kind) kind (any_accepts first.on kind) refl k.0
-      (choose-passes test others kind rule k.1) e
+    (choose-passes test others kind rule k.1) e
 
 passes-kept : (p : Part) (kind : Kind) (rule : Rule) → choose (rules p) kind ≡ Some rule → Passes (rule_keeps p) kind rule
 unfolding keeps
@@ -117,7 +117,7 @@ one-accepts test [] kind h a = absurd (false≢true a)
 one-accepts test (t ∷ on) kind h a =
     let k = and_parts (test t) (list_all test on) h in
     let later : any_accepts on kind ≡ true → (t : Terminal) × (accepts t kind ≡ true) × (test t ≡ true)
-        = one-accepts test on kind k.1 in
+    = one-accepts test on kind k.1 in
     elim (or_cases (accepts t kind) (any_accepts on kind) a) [ inl s ↦ (t, s, k.0) | inr o ↦ later o ]
 
 -- the symbols of a chosen rule make no if without an else, but for one before a token that is no else
@@ -133,8 +133,9 @@ two-chosen false first second rule e = inr (refl, same_Some second rule e)
 else-calm : (kind : Kind) (rule : Rule) → choose (rules part.OptionalElse) kind ≡ Some rule → CalmRule kind rule.move rule.symbols
 unfolding choose rules any_accepts accepts free
 else-calm kind rule e = elim (two-chosen (accepts (terminal.Keyword keyword.Else) kind) _ _ rule e) [
-      inl k ↦ subst (λ r. CalmRule kind r.move r.symbols) k.1 (inl refl)
-    | inr k ↦ subst (λ r. CalmRule kind r.move r.symbols) k.1 (inr (refl, refl, k.0)) ]
+  | inl k ↦ subst (λ r. CalmRule kind r.move r.symbols) k.1 (inl refl)
+  | inr k ↦ subst (λ r. CalmRule kind r.move r.symbols) k.1 (inr (refl, refl, k.0))
+]
 
 only-else : (p : Part) → may_end_if p ≡ true → p ≡ part.OptionalElse
 unfolding may_end_if
@@ -144,9 +145,10 @@ only-else _ h = absurd (false≢true h)
 rule-calm : (p : Part) (kind : Kind) (rule : Rule) → choose (rules p) kind ≡ Some rule → CalmRule kind rule.move rule.symbols
 unfolding all_free
 rule-calm p kind rule e = elim (or_cases (may_end_if p) (list_all (λ r. free r.symbols) (rules p)) (each-free p)) [
-      inl m ↦ else-calm kind rule
-        (subst (λ x. choose (rules x) kind ≡ Some rule) (only-else p m) e)
-    | inr f ↦ inl (choose-passes (λ r. free r.symbols) (rules p) kind rule f e).0 ]
+  | inl m ↦ else-calm kind rule
+      (subst (λ x. choose (rules x) kind ≡ Some rule) (only-else p m) e)
+  | inr f ↦ inl (choose-passes (λ r. free r.symbols) (rules p) kind rule f e).0
+]
 
 taken_stays : move.Take ≡ move.Stay → ⊥
 taken_stays e = cc
@@ -177,15 +179,17 @@ after-keeps : (p : Part) (m : Move) (on : List Terminal) (symbols others : List 
     → Kept tokens (moved m (symbols ++ others) values token left)
 unfolding Clear
 after-keeps p move.Take on symbols others values token left tokens h a r k = record {
-    good = good-after p move.Take on symbols others values token left h a k.good;
-    calm = calm-after move.Take symbols others values token left r k.calm;
-    clear = (tt, k.clear);
-    spelt = k.spelt }
+  good = good-after p move.Take on symbols others values token left h a k.good;
+  calm = calm-after move.Take symbols others values token left r k.calm;
+  clear = (tt, k.clear);
+  spelt = k.spelt;
+}
 after-keeps p move.Stay on symbols others values token left tokens h a r k = record {
-    good = good-after p move.Stay on symbols others values token left h a k.good;
-    calm = calm-after move.Stay symbols others values token left r k.calm;
-    clear = k.clear;
-    spelt = k.spelt }
+  good = good-after p move.Stay on symbols others values token left h a k.good;
+  calm = calm-after move.Stay symbols others values token left r k.calm;
+  clear = k.clear;
+  spelt = k.spelt;
+}
 
 read-keeps : (p : Part) (others : List Symbol) (values : List Written) (token : Token) (left tokens : List Token) (b : State)
     (o : Option Rule) → choose (rules p) (kind_of token) ≡ o → follow_rule o others values token left ≡ Some b
@@ -194,7 +198,7 @@ read-keeps p others values token left tokens b None c e k = absurd (none-some b 
 read-keeps p others values token left tokens b (Some rule) c e k =
     let h : Passes (rule_keeps p) (kind_of token) rule = passes-kept p (kind_of token) rule c in
     subst (Kept tokens) (same_Some _ b e)
-      (after-keeps p rule.move rule.on rule.symbols others values token left tokens h.0 h.1 (rule-calm p (kind_of token) rule c) k)
+    (after-keeps p rule.move rule.on rule.symbols others values token left tokens h.0 h.1 (rule-calm p (kind_of token) rule c) k)
 
 -- One step keeps the invariant.
 step-keeps : (symbols : List Symbol) (values : List Written) (left tokens : List Token) (b : State) → step symbols values left ≡ Some b
@@ -202,10 +206,11 @@ step-keeps : (symbols : List Symbol) (values : List Written) (left tokens : List
 unfolding step Clear
 step-keeps [] values left tokens b e k = absurd (none-some b e)
 step-keeps (symbol.Reduce p ∷ symbols) values left tokens b e k = subst (Kept tokens) (same_Some _ b e) (record {
-    good = k.good;
-    calm = free-Calm symbols left k.calm.1;
-    clear = reduce-clear p values left k.calm.0 k.clear;
-    spelt = reduce-spelled p values left ∙ k.spelt })
+  good = k.good;
+  calm = free-Calm symbols left k.calm.1;
+  clear = reduce-clear p values left k.calm.0 k.clear;
+  spelt = reduce-spelled p values left ∙ k.spelt;
+})
 step-keeps (symbol.Take t ∷ symbols) values [] tokens b e k = absurd (none-some b e)
 step-keeps (symbol.Take t ∷ symbols) values (token ∷ left) tokens b e k =
     let h = if_some (accepts t (kind_of token)) (Some (at symbols (leaf token ∷ values) left)) b e in
@@ -213,7 +218,8 @@ step-keeps (symbol.Take t ∷ symbols) values (token ∷ left) tokens b e k =
       good = k.good token h.0;
       calm = free-Calm symbols left k.calm;
       clear = (tt, k.clear);
-      spelt = k.spelt })
+      spelt = k.spelt;
+    })
 step-keeps (symbol.Read p ∷ symbols) values [] tokens b e k = absurd (none-some b e)
 step-keeps (symbol.Read p ∷ symbols) values (token ∷ left) tokens b e k =
     read-keeps p symbols values token left tokens b (choose (rules p) (kind_of token)) refl e k
@@ -221,3 +227,26 @@ step-keeps (symbol.Read p ∷ symbols) values (token ∷ left) tokens b e k =
 reaches-keeps : {a b : State} (tokens : List Token) → Reaches a b → Kept tokens a → Kept tokens b
 reaches-keeps tokens here k = k
 reaches-keeps tokens (next {a} {b} {c} e r) k = reaches-keeps tokens r (step-keeps a.symbols a.values a.tokens tokens b e k)
+
+-- the symbols that read a source make one
+starts : Good (start []).symbols []
+starts = run (start []).symbols class.source [] [] [] start-types (λ written s i. (written, refl, s, i))
+
+starts-kept : (tokens : List Token) → Kept tokens (start tokens)
+unfolding free
+starts-kept tokens = record { good = starts; calm = refl; clear = tt; spelt = refl }
+
+-- What is read to its end is a source, of which one value is left.
+pub sound : (tokens : List Token) (values : List Written) → Reaches (start tokens) (at [] values [])
+    → (written : Written) × (values ≡ written ∷ []) × IsText written tokens
+sound tokens values r =
+    let k : Kept tokens (at [] values []) = reaches-keeps tokens r (starts-kept tokens) in
+    let one : ClearAll (k.good.0 ∷ []) [] = subst (λ x. ClearAll x []) k.good.1 k.clear in (
+      k.good.0,
+      k.good.1,
+      record {
+        is_source = k.good.2;
+        proper = proper k.good.0 [] k.good.3 one.0;
+        spelled = sym (append-nil (spell k.good.0)) ∙ sym (ap (λ x. spelled x []) k.good.1) ∙ k.spelt;
+      },
+    )

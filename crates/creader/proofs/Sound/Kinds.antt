@@ -61,14 +61,14 @@ at-punctuator _ = refl
 
 each-keyword : (test : Keyword → Bool) → list_all test keywords ≡ true → (k : Keyword) → test k ≡ true
 unfolding keywords
-each-keyword test h k = subst (λ x. test x ≡ true) (at-keyword k) 
-        (at-entry test keywords (keyword_number k) keyword.Attribute (and_parts _ _ h).0 h)
+each-keyword test h k = subst (λ x. test x ≡ true) (at-keyword k)
+    (at-entry test keywords (keyword_number k) keyword.Attribute (and_parts _ _ h).0 h)
 
 each-punctuator : (test : Punctuator → Bool) → list_all test punctuators ≡ true → (p : Punctuator) → test p ≡ true
 unfolding punctuators
 each-punctuator test h p =
-    subst (λ x. test x ≡ true) (at-punctuator p) 
-        (at-entry test punctuators (punctuator_number p) punctuator.ShiftLeftAssign (and_parts _ _ h).0 h)
+    subst (λ x. test x ≡ true) (at-punctuator p)
+    (at-entry test punctuators (punctuator_number p) punctuator.ShiftLeftAssign (and_parts _ _ h).0 h)
 
 each-plain : (test : Kind → Bool) → list_all test plain_kinds ≡ true → (i : ℕ) → test (get_or plain_kinds i kind.Name) ≡ true
 unfolding plain_kinds

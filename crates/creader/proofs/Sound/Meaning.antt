@@ -100,9 +100,9 @@ unfolding reduce Gathered Shape IsShaped
 reduce-shape p P values u =
     let n : length (turned (template p) []) ≡ length (template p) = length-turned (template p) [] ∙ omega arith in
     let g : Gathered (turned (turned (template p) []) []) P (gather (length (turned (template p) [])) values none)
-        = gather-shape (turned (template p) []) [] P values none tt u in
+    = gather-shape (turned (template p) []) [] P values none tt u in
     let h : Gathered (template p) P (gather (length (template p)) values none)
-        = rw (turned_back (template p), n) at g in
+    = rw (turned_back (template p), n) at g in
     (under_refl (home p), h.0, h.1)
 
 one : (c : Class) (values : List Written) (rest : List Piece) (P : List Written → Type 0)
@@ -123,11 +123,11 @@ run (symbol.Take t ∷ symbols) c sorts next values h u =
 run (symbol.Read p ∷ symbols) c sorts next values h u =
     let k = at_rest-some (strip (entry p) sorts) (λ rest. types c symbols (class.part (exit p) ∷ rest)) h in
     Upon-map (entry p) (Upon k.0 (Gives c (Good next))) (Gives (exit p) (Good (symbols ++ next)))
-        (λ below v written s i. run symbols c (class.part (exit p) ∷ k.0) next (written ∷ below) k.2 (s, i, v))
-        values (strip-Upon (entry p) sorts k.0 (Gives c (Good next)) k.1 values u)
+    (λ below v written s i. run symbols c (class.part (exit p) ∷ k.0) next (written ∷ below) k.2 (s, i, v))
+    values (strip-Upon (entry p) sorts k.0 (Gives c (Good next)) k.1 values u)
 run (symbol.Reduce p ∷ symbols) c sorts next values h u =
     let k = at_rest-some (strip (turned (template p) []) sorts) (λ rest. types c symbols (class.part (home p) ∷ rest)) h in
     run symbols c (class.part (home p) ∷ k.0) next (reduce p values) k.2
-        (one (home p) (reduce p values) k.0 (Gives c (Good next))
-            (reduce-shape p (Upon k.0 (Gives c (Good next))) values
-                (strip-Upon (turned (template p) []) sorts k.0 (Gives c (Good next)) k.1 values u)))
+    (one (home p) (reduce p values) k.0 (Gives c (Good next))
+    (reduce-shape p (Upon k.0 (Gives c (Good next))) values
+    (strip-Upon (turned (template p) []) sorts k.0 (Gives c (Good next)) k.1 values u)))

@@ -20,7 +20,7 @@ pub covered-accepts : (narrow wide : Terminal) → covered narrow wide ≡ true 
 unfolding covered
 covered-accepts narrow wide h k a =
     elim (or_cases (not (accepts narrow k)) (accepts wide k) (at-kind (λ k. not (accepts narrow k) || accepts wide k) h k))
-      [ inl n ↦ absurd (false≢true (sym (not-true _ n) ∙ a)) | inr w ↦ w ]
+    [ inl n ↦ absurd (false≢true (sym (not-true _ n) ∙ a)) | inr w ↦ w ]
 
 -- the class with this number
 plain_classes : List Class
@@ -73,10 +73,12 @@ under_refl c = or_left (nat_eq (class_number c) (class_number c)) (is_wider c c)
 pub under_trans : (c d e : Class) → under c d ≡ true → under d e ≡ true → under c e ≡ true
 unfolding under
 under_trans c d e h g = elim (or_cases _ _ h) [
-      inl s ↦ subst (λ x. under x e ≡ true) (sym (same-class c d s)) g
-    | inr w ↦ elim (or_cases _ _ g) [
-        inl s ↦ subst (λ x. under c x ≡ true) (same-class d e s) h
-      | inr v ↦ or_right _ _ (wider-trans c d e w v) ] ]
+  | inl s ↦ subst (λ x. under x e ≡ true) (sym (same-class c d s)) g
+  | inr w ↦ elim (or_cases _ _ g) [
+    | inl s ↦ subst (λ x. under c x ≡ true) (same-class d e s) h
+    | inr v ↦ or_right _ _ (wider-trans c d e w v)
+  ]
+]
 
 -- what stands at the first place may stand at the second
 unfoldable pub below : Piece → Piece → Bool

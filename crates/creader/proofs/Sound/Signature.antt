@@ -5,6 +5,7 @@ use Rattle.csyn.specs.declared.keyword.Keyword.TheVariants as keyword
 use Rattle.csyn.specs.declared.punctuator.Punctuator.TheVariants as punctuator
 use Rattle.cgrammar.specs.declared.terminal.Terminal.{Terminal}
 use Rattle.cgrammar.specs.declared.terminal.Terminal.TheVariants as terminal
+use Rattle.cgrammar.specs.declared.production.Production.TheVariants as make
 use Rattle.cgrammar.specs.declared.production.Level.{Level}
 use Rattle.cgrammar.specs.declared.production.Level.TheVariants as chain
 use Rattle.cgrammar.specs.declared.production.Words.TheVariants as every
@@ -170,3 +171,8 @@ each-keeps (part.ChainTail _) = refl
 each-keeps (part.Words every.Sign) = refl
 each-keeps (part.Words _) = refl
 each-keeps _ = refl
+
+-- the symbols that read a source make one of no values
+pub start-types : types class.source (symbol.Read part.Units ∷ symbol.Take terminal.End ∷ symbol.Reduce make.Source ∷ []) [] ≡ true
+unfolding keeps
+start-types = refl
