@@ -1,5 +1,5 @@
 -- What each step of the machine keeps, and that what is read to its end is a source.
-use Rattle.std.proofs.Common.{◌≡◌, ℕ, Bool, true, false, not, ◌&&◌, ◌||◌, ◌⊎◌, List, [], ◌∷◌, ◌++◌, Option, Some, None, if◌then◌else◌, refl, sym, ◌∙◌, ap, subst, inl, inr, append-nil}
+use Rattle.std.proofs.Common.{◌≡◌, Bool, true, false, not, ◌&&◌, ◌||◌, ◌⊎◌, List, [], ◌∷◌, ◌++◌, Option, Some, None, if◌then◌else◌, refl, sym, ◌∙◌, ap, subst, inl, inr, append-nil}
 use Rattle.std.specs.List.{list_all}
 use Rattle.std.proofs.lemmas.Bool.{false≢true, or_cases, and_parts, and_from}
 use Rattle.std.proofs.lemmas.Option.{none-some, same_Some}
@@ -8,7 +8,6 @@ use Rattle.csyn.specs.declared.token.Token.{Token}
 use Rattle.cgrammar.specs.declared.kind.Kind.{Kind}
 use Rattle.cgrammar.specs.declared.production.Level.TheVariants as chain
 use Rattle.cgrammar.specs.declared.production.Words.TheVariants as every
-use Rattle.cgrammar.specs.declared.production.Production.{Production}
 use Rattle.cgrammar.specs.declared.production.Production.TheVariants as make
 use Rattle.cgrammar.specs.declared.terminal.Terminal.{Terminal}
 use Rattle.cgrammar.specs.declared.terminal.Terminal.TheVariants as terminal
@@ -23,7 +22,7 @@ use Rattle.cgrammar.specs.Terminal.{accepts}
 use Rattle.cgrammar.specs.Grammar as class
 use Rattle.cgrammar.specs.Rules.{Rule, rules, chain_rules, chain_tail_rules, words_rules, any_accepts, choose}
 use Rattle.cgrammar.specs.Text.{Written, leaf, spell, is_if_without_else, IsText}
-use Rattle.creader.specs.Machine.{State, at, moved, follow_rule, step, start, reduce, Reaches, here, next}
+use Rattle.creader.specs.Machine.{State, at, moved, follow_rule, step, start, Reaches, here, next}
 use Rattle.creader.proofs.Sound.Signature.{entry, exit, types, move_keeps, rule_keeps, keeps, each-keeps, start-types}
 use Rattle.creader.proofs.Sound.Meaning.{if_some, IsShaped, Good, Upon, Gives, run}
 use Rattle.creader.proofs.Sound.Else.{starts_with_else, ClearAll, Clear, reduce-clear, spelled, reduce-spelled, proper}

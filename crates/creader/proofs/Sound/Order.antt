@@ -1,5 +1,5 @@
 -- When what stands at one place may stand at another: computed, and what that gives.
-use Rattle.std.proofs.Common.{◌≡◌, ℕ, ◌+◌, ◌-◌, ◌≤◌, Bool, true, false, not, ◌&&◌, ◌||◌, nat_eq, nat_le, if◌then◌else◌, List, [], ◌∷◌, get_or, refl, sym, ◌∙◌, ap, subst, inl, inr, arith}
+use Rattle.std.proofs.Common.{◌≡◌, ℕ, ◌+◌, ◌-◌, Bool, true, false, not, ◌||◌, nat_eq, nat_le, if◌then◌else◌, List, [], ◌∷◌, get_or, refl, sym, ◌∙◌, ap, subst, inl, inr, arith}
 use Rattle.std.proofs.lemmas.Bool.{leb-true, le-leb, eqb-true, eq-eqb, or_cases, or_left, or_right, false≢true, cond-true, not-true}
 use Rattle.cgrammar.specs.declared.kind.Kind.{Kind}
 use Rattle.cgrammar.specs.declared.terminal.Terminal.{Terminal}
