@@ -258,6 +258,21 @@ before every.SignLengthInt kind.Length = words every.SignInt
 before every.SignLengthInt kind.Sign = words every.LengthInt
 before _ _ = nothing
 
+-- the words with the last one of them, where it can be the last of several
+unfoldable pub joined : Words → Word → Class
+joined every.SignChar kind.Char = words every.SignChar
+joined every.SignLength kind.Length = words every.SignLength
+joined every.SignInt kind.Int = words every.SignInt
+joined every.SignChar kind.Sign = words every.SignChar
+joined every.SignLength kind.Sign = words every.SignLength
+joined every.LengthInt kind.Int = words every.LengthInt
+joined every.SignInt kind.Sign = words every.SignInt
+joined every.LengthInt kind.Length = words every.LengthInt
+joined every.SignLengthInt kind.Int = words every.SignLengthInt
+joined every.SignLengthInt kind.Length = words every.SignLengthInt
+joined every.SignLengthInt kind.Sign = words every.SignLengthInt
+joined _ _ = nothing
+
 -- of which class a production makes a part
 unfoldable pub home : Production → Class
 home make.Identifier = identifier
@@ -299,7 +314,7 @@ home make.StructBase = base
 home make.StandardBase = base
 home make.IntegerBase = base
 home (make.FirstWord w) = words (alone w)
-home (make.NextWord all w) = words all
+home (make.NextWord all w) = joined all w
 home make.NoPointers = stars
 home make.Star = stars
 home make.QualifiedPointer = qualified

@@ -41,6 +41,8 @@ Calm (symbol.Reduce p ∷ symbols) tokens = (is_if_without_else p ≡ true → s
 Calm (symbol.Take _ ∷ symbols) tokens = free symbols ≡ true
 Calm (symbol.Read _ ∷ symbols) tokens = free symbols ≡ true
 
+-- The invariant: the symbols make one source of the values, an if without an else stands before no else, and the values and the tokens
+-- that are left are spelled with all the tokens.
 record Kept (tokens : List Token) (state : State) : Type 0 where
   good : Good state.symbols state.values
   calm : Calm state.symbols state.tokens
@@ -85,6 +87,7 @@ each-free (part.Words every.Sign) = refl
 each-free (part.Words _) = refl
 each-free _ = refl
 
+-- the rule passes, and is for the token
 abbrev Passes : (Rule → Bool) → Kind → Rule → Type 0
 Passes test kind rule = (test rule ≡ true) × (any_accepts rule.on kind ≡ true)
 
@@ -129,6 +132,7 @@ two-chosen : (b : Bool) (first second rule : Rule) → (if b || false then Some 
 two-chosen true first second rule e = inl (refl, same_Some first rule e)
 two-chosen false first second rule e = inr (refl, same_Some second rule e)
 
+-- before an else the other rule of OptionalElse is chosen
 else-calm : (kind : Kind) (rule : Rule) → choose (rules part.OptionalElse) kind ≡ Some rule → CalmRule kind rule.move rule.symbols
 unfolding choose rules any_accepts accepts free
 else-calm kind rule e = elim (two-chosen (accepts (terminal.Keyword keyword.Else) kind) _ _ rule e) [
@@ -172,6 +176,7 @@ good-after p move.Take on symbols others values token left h a u =
     run symbols (exit p) (class.token k.0 ∷ entry p) others (leaf token ∷ values) k.2 (k.1, tt, u)
 good-after p move.Stay on symbols others values token left h a u = run symbols (exit p) (entry p) others values h u
 
+-- following a rule keeps the invariant
 after-keeps : (p : Part) (m : Move) (on : List Terminal) (symbols others : List Symbol) (values : List Written) (token : Token)
     (left tokens : List Token) → move_keeps p m on symbols ≡ true → any_accepts on (kind_of token) ≡ true
     → CalmRule (kind_of token) m symbols → Kept tokens (at (symbol.Read p ∷ others) values (token ∷ left))

@@ -36,6 +36,7 @@ Upon (sort ∷ sorts) Rest [] = ⊥
 abbrev pub Gives : Class → (List Written → Type 0) → List Written → Type 0
 Gives c Next values = (written : Written) → Stands (class.part c) written → IsShaped written → Next (written ∷ values)
 
+-- What is still to do makes one source of the values, whatever tokens it takes and whatever parts it reads.
 abbrev pub Good : List Symbol → List Written → Type 0
 Good [] values = (written : Written) × (values ≡ written ∷ []) × Stands (class.part class.source) written × IsShaped written
 Good (symbol.Take t ∷ symbols) values = (token : Token) → accepts t (kind_of token) ≡ true → Good symbols (leaf token ∷ values)
@@ -94,6 +95,7 @@ gather-shape (piece ∷ pieces) others P [] parts s u = absurd u
 gather-shape (piece ∷ pieces) others P (value ∷ values) parts s u =
     gather-shape pieces (piece ∷ others) P values (more value parts) (u.0, u.1, s) u.2
 
+-- one value made of the last ones, whose sorts are the right side backwards
 reduce-shape : (p : Production) (P : List Written → Type 0) (values : List Written) → Upon (turned (template p) []) P values
     → Upon (class.part (home p) ∷ []) P (reduce p values)
 unfolding reduce Gathered Shape IsShaped
@@ -110,7 +112,7 @@ one : (c : Class) (values : List Written) (rest : List Piece) (P : List Written 
 one c [] rest P u = u
 one c (value ∷ values) rest P u = u
 
--- symbols of a part of the class, and then the others
+-- Symbols that leave one value of the class, and then the others.
 pub run : (symbols : List Symbol) (c : Class) (sorts : List Piece) (next : List Symbol) (values : List Written)
     → types c symbols sorts ≡ true → Upon sorts (Gives c (Good next)) values → Good (symbols ++ next) values
 unfolding types IsShaped

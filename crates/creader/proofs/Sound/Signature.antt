@@ -17,11 +17,12 @@ use Rattle.cgrammar.specs.declared.part.Symbol.{Symbol}
 use Rattle.cgrammar.specs.declared.part.Symbol.TheVariants as symbol
 use Rattle.cgrammar.specs.Terminal.{accepts, keyword_number, punctuator_number}
 use Rattle.cgrammar.specs.Grammar as class
-use Rattle.cgrammar.specs.Grammar.{Class, Piece, word, sign, under, is_wider, class_number, words_number, operator_level, operator_token, assignment_class, assignment_token, word_token, alone, before, home, template}
+use Rattle.cgrammar.specs.Grammar.{Class, Piece, word, sign, under, is_wider, class_number, words_number, operator_level, operator_token, assignment_class, assignment_token, word_token, alone, before, joined, home, template}
 use Rattle.cgrammar.specs.Rules.{Rule, rules, chain_rules, chain_tail_rules, words_rules}
 use Rattle.creader.proofs.Sound.Kinds.{keywords, punctuators, plain_kinds, every_kind}
 use Rattle.creader.proofs.Sound.Order.{covered, below}
 
+-- the number of a level of operators
 unfoldable pub chain_level : Level → ℕ
 chain_level chain.Or = 3
 chain_level chain.And = 4
@@ -137,6 +138,7 @@ unfoldable pub turned : List Piece → List Piece → List Piece
 turned [] others = others
 turned (piece ∷ pieces) others = turned pieces (piece ∷ others)
 
+-- the test of what is left, if it could be taken off
 abbrev pub at_rest : Option (List Piece) → (List Piece → Bool) → Bool
 at_rest None test = false
 at_rest (Some sorts) test = test sorts
@@ -150,6 +152,7 @@ types c (symbol.Read p ∷ symbols) sorts = at_rest (strip (entry p) sorts) (λ 
 types c (symbol.Reduce p ∷ symbols) sorts =
     at_rest (strip (turned (template p) []) sorts) (λ rest. types c symbols (class.part (home p) ∷ rest))
 
+-- Symbols over what the part goes on with leave what the part leaves; where the token is taken, over the token too.
 unfoldable pub move_keeps : Part → Move → List Terminal → List Symbol → Bool
 move_keeps p move.Take on symbols = list_all (λ t. types (exit p) symbols (class.token t ∷ entry p)) on
 move_keeps p move.Stay on symbols = types (exit p) symbols (entry p)
@@ -157,8 +160,9 @@ move_keeps p move.Stay on symbols = types (exit p) symbols (entry p)
 abbrev pub rule_keeps : Part → Rule → Bool
 rule_keeps p rule = move_keeps p rule.move rule.on rule.symbols
 
+-- all rules of a part do, which computes
 unfoldable pub keeps : Part → Bool
-unfolding rules chain_rules chain_tail_rules words_rules accepts keyword_number punctuator_number under is_wider class_number words_number operator_level operator_token assignment_class assignment_token word_token alone before home template keywords punctuators plain_kinds every_kind covered below chain_level entry exit strip turned types move_keeps
+unfolding rules chain_rules chain_tail_rules words_rules accepts keyword_number punctuator_number under is_wider class_number words_number operator_level operator_token assignment_class assignment_token word_token alone before joined home template keywords punctuators plain_kinds every_kind covered below chain_level entry exit strip turned types move_keeps
 keeps p = list_all (rule_keeps p) (rules p)
 
 pub each-keeps : (p : Part) → keeps p ≡ true
