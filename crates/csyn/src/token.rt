@@ -1,3 +1,4 @@
+use crate::ctype::StandardInteger;
 use crate::keyword::Keyword;
 use crate::punctuator::Punctuator;
 use crate::span::Span;
@@ -24,6 +25,8 @@ pub enum TokenKind {
     Literal(Text),
     Keyword(Keyword),
     Punctuator(Punctuator),
+    /// A type name of `<stdint.h>`, behind its include.
+    Standard(StandardInteger),
     /// The end of the source. It has no spelling.
     End,
 }
