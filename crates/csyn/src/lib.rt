@@ -14,6 +14,7 @@ mod span;
 mod statement;
 mod text;
 mod token;
+mod tree;
 mod unit;
 
 pub use cause::Cause;
@@ -34,6 +35,7 @@ pub use span::Span;
 pub use statement::{ForFirst, Items, Stmt, StmtKind};
 pub use text::Text;
 pub use token::{Character, Number, Token, TokenKind};
+pub use tree::{MAX_LEVELS, MAX_TOKENS, Tree};
 pub use unit::{Head, Unit, UnitKind, Units};
 
 #[cfg(test)]
