@@ -1,3 +1,4 @@
+pub mod Bare
 pub mod Cause
 pub mod Keyword
 pub mod Levels
