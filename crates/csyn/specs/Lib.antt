@@ -1,5 +1,6 @@
 pub mod Bare
 pub mod Cause
+pub mod Expressions
 pub mod Keyword
 pub mod Levels
 pub mod Punctuator

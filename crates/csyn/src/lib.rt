@@ -7,6 +7,7 @@ mod declaration;
 mod expression;
 mod fault;
 mod keyword;
+mod lookup;
 mod mark;
 mod operator;
 mod punctuator;
