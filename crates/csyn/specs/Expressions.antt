@@ -127,7 +127,7 @@ abbrev mutual
   stmt_kind_expressions (While' c _ _ s) = expr_expressions c.value ++ stmt_kind_expressions s
   stmt_kind_expressions (Do' _ _ s c) = stmt_kind_expressions s ++ expr_expressions c.value
   stmt_kind_expressions (For' a b c _ _ s) =
-      for_first_expressions a ++ (option_expressions b ++ (option_expressions c ++ stmt_kind_expressions s))
+      (for_first_expressions a ++ (option_expressions b ++ option_expressions c)) ++ stmt_kind_expressions s
   stmt_kind_expressions Break = []
   stmt_kind_expressions Continue = []
   stmt_kind_expressions (Return e) = option_expressions e

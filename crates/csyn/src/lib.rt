@@ -36,7 +36,7 @@ pub use span::Span;
 pub use statement::{ForFirst, Items, Stmt, StmtKind};
 pub use text::Text;
 pub use token::{Character, Number, Token, TokenKind};
-pub use tree::{MAX_LEVELS, MAX_TOKENS, Tree};
+pub use tree::{ExprId, MAX_LEVELS, MAX_TOKENS, Tree};
 pub use unit::{Head, Unit, UnitKind, Units};
 
 #[cfg(test)]
