@@ -1,5 +1,6 @@
 //! The look-up of an expression by its number, in each part of a tree. Trees are no deeper than their levels, and lists are
 //! gone through by loops.
+#![tactic(auto, using(crate::proofs::Numbered::numbers))]
 
 ghost use Rattle.std.specs.Prelude.{◌≡◌, ◌++◌};
 ghost use Rattle.std.specs.Option.{option_copied};
@@ -15,7 +16,6 @@ use crate::unit::{UnitKind, Units};
 
 /// The expression with this number among `e` and those below it.
 #[cycle(in_expr)]
-#[tactic(auto, using(crate::proofs::Numbered::numbers))]
 fn in_expr(e: &Expr, number: u32) -> Option<&Expr>
     ensures { option_copied result ≡ numbered number (expr_expressions e.now) }
 {
@@ -26,7 +26,6 @@ fn in_expr(e: &Expr, number: u32) -> Option<&Expr>
 }
 
 #[cycle(in_expr)]
-#[tactic(auto, using(crate::proofs::Numbered::numbers))]
 fn in_kind(kind: &ExprKind, number: u32) -> Option<&Expr>
     ensures { option_copied result ≡ numbered number (below kind.now) }
 {
@@ -65,7 +64,6 @@ fn in_kind(kind: &ExprKind, number: u32) -> Option<&Expr>
 }
 
 #[cycle(in_expr)]
-#[tactic(auto, using(crate::proofs::Numbered::numbers))]
 fn in_exprs(list: &Exprs, number: u32) -> Option<&Expr>
     ensures { option_copied result ≡ numbered number (exprs_expressions list.now) }
 {
@@ -79,7 +77,6 @@ fn in_exprs(list: &Exprs, number: u32) -> Option<&Expr>
     None
 }
 
-#[tactic(auto, using(crate::proofs::Numbered::numbers))]
 fn in_option(e: &Option<Box<Expr>>, number: u32) -> Option<&Expr>
     ensures { option_copied result ≡ numbered number (option_expressions e.now) }
 {
@@ -95,7 +92,6 @@ fn in_declarator(d: &Declarator, number: u32) -> Option<&Expr>
     in_exprs(&d.lengths, number)
 }
 
-#[tactic(auto, using(crate::proofs::Numbered::numbers))]
 fn in_declarators(list: &Declarators, number: u32) -> Option<&Expr>
     ensures { option_copied result ≡ numbered number (declarators_expressions list.now) }
 {
@@ -109,7 +105,6 @@ fn in_declarators(list: &Declarators, number: u32) -> Option<&Expr>
     None
 }
 
-#[tactic(auto, using(crate::proofs::Numbered::numbers))]
 fn in_members(list: &Members, number: u32) -> Option<&Expr>
     ensures { option_copied result ≡ numbered number (members_expressions list.now) }
 {
@@ -124,7 +119,6 @@ fn in_members(list: &Members, number: u32) -> Option<&Expr>
 }
 
 #[cycle(in_init)]
-#[tactic(auto, using(crate::proofs::Numbered::numbers))]
 fn in_init(init: &Init, number: u32) -> Option<&Expr>
     ensures { option_copied result ≡ numbered number (init_expressions init.now) }
 {
@@ -135,7 +129,6 @@ fn in_init(init: &Init, number: u32) -> Option<&Expr>
 }
 
 #[cycle(in_init)]
-#[tactic(auto, using(crate::proofs::Numbered::numbers))]
 fn in_inits(list: &Inits, number: u32) -> Option<&Expr>
     ensures { option_copied result ≡ numbered number (inits_expressions list.now) }
 {
@@ -149,7 +142,6 @@ fn in_inits(list: &Inits, number: u32) -> Option<&Expr>
     None
 }
 
-#[tactic(auto, using(crate::proofs::Numbered::numbers))]
 fn in_option_init(init: &Option<Box<Init>>, number: u32) -> Option<&Expr>
     ensures { option_copied result ≡ numbered number (option_init_expressions init.now) }
 {
@@ -159,7 +151,6 @@ fn in_option_init(init: &Option<Box<Init>>, number: u32) -> Option<&Expr>
     }
 }
 
-#[tactic(auto, using(crate::proofs::Numbered::numbers))]
 fn in_init_declarator(d: &InitDeclarator, number: u32) -> Option<&Expr>
     ensures { option_copied result ≡ numbered number (init_declarator_expressions d.now) }
 {
@@ -168,7 +159,6 @@ fn in_init_declarator(d: &InitDeclarator, number: u32) -> Option<&Expr>
         .or_else(|| in_option_init(&d.init, number))
 }
 
-#[tactic(auto, using(crate::proofs::Numbered::numbers))]
 fn in_init_declarators(list: &InitDeclarators, number: u32) -> Option<&Expr>
     ensures { option_copied result ≡ numbered number (init_declarators_expressions list.now) }
 {
@@ -188,7 +178,6 @@ fn in_object(o: &Object, number: u32) -> Option<&Expr>
     in_init_declarators(&o.declarators, number)
 }
 
-#[tactic(auto, using(crate::proofs::Numbered::numbers))]
 fn in_parameter_list(list: &ParameterList, number: u32) -> Option<&Expr>
     ensures { option_copied result ≡ numbered number (parameter_list_expressions list.now) }
 {
@@ -202,7 +191,6 @@ fn in_parameter_list(list: &ParameterList, number: u32) -> Option<&Expr>
     None
 }
 
-#[tactic(auto, using(crate::proofs::Numbered::numbers))]
 fn in_parameters(parameters: &Parameters, number: u32) -> Option<&Expr>
     ensures { option_copied result ≡ numbered number (parameters_expressions parameters.now) }
 {
@@ -222,7 +210,6 @@ fn in_for_first(first: &ForFirst, number: u32) -> Option<&Expr>
 }
 
 #[cycle(in_items)]
-#[tactic(auto, using(crate::proofs::Numbered::numbers))]
 fn in_stmt_kind(kind: &StmtKind, number: u32) -> Option<&Expr>
     ensures { option_copied result ≡ numbered number (stmt_kind_expressions kind.now) }
 {
@@ -256,7 +243,6 @@ fn in_stmt_kind(kind: &StmtKind, number: u32) -> Option<&Expr>
     }
 }
 
-#[tactic(auto, using(crate::proofs::Numbered::numbers))]
 fn in_for_head<'a>(
     first: &'a ForFirst,
     condition: &'a Option<Box<Expr>>,
@@ -271,7 +257,6 @@ fn in_for_head<'a>(
 }
 
 #[cycle(in_items)]
-#[tactic(auto, using(crate::proofs::Numbered::numbers))]
 fn in_items(list: &Items, number: u32) -> Option<&Expr>
     ensures { option_copied result ≡ numbered number (items_expressions list.now) }
 {
@@ -289,7 +274,6 @@ fn in_items(list: &Items, number: u32) -> Option<&Expr>
     }
 }
 
-#[tactic(auto, using(crate::proofs::Numbered::numbers))]
 fn in_unit_kind(kind: &UnitKind, number: u32) -> Option<&Expr>
     ensures { option_copied result ≡ numbered number (unit_kind_expressions kind.now) }
 {
@@ -305,7 +289,6 @@ fn in_unit_kind(kind: &UnitKind, number: u32) -> Option<&Expr>
 }
 
 /// The first expression of the units with this number.
-#[tactic(auto, using(crate::proofs::Numbered::numbers))]
 pub fn in_units(list: &Units, number: u32) -> Option<&Expr>
     ensures { option_copied result ≡ numbered number (units_expressions list.now) }
 {
