@@ -28,8 +28,6 @@ pub use declaration::{
 };
 pub use expression::{Expr, ExprKind, Exprs};
 pub use fault::SourceFault;
-pub use ctype::{Base, CType, IntegerWords, Length, Pointer, Pointers, Sign, StandardInteger, TypeName};
-pub use operator::{BinaryOperator, PostfixOperator, PrefixOperator};
 pub use keyword::{KEYWORDS, Keyword};
 pub use mark::Mark;
 pub use operator::{BinaryOperator, PostfixOperator, PrefixOperator};
