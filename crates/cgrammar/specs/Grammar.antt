@@ -484,3 +484,50 @@ template make.NextParameter = sign punctuator.Comma ∷ part parameter ∷ part 
 template make.EndUnits = []
 template make.NextUnit = part unit ∷ part units ∷ []
 template make.Source = part units ∷ token terminal.End ∷ []
+
+-- The nodes of a tree are units, local objects, statements, initialisers in braces and expressions. Parentheses are none, nor is the
+-- name of a function that is called.
+unfoldable pub is_node : Production → Bool
+is_node make.Name = true
+is_node make.Number = true
+is_node make.Character = true
+is_node make.Index = true
+is_node make.CallFunction = true
+is_node make.Call = true
+is_node make.Member = true
+is_node make.Arrow = true
+is_node make.PostIncrement = true
+is_node make.PostDecrement = true
+is_node make.PreIncrement = true
+is_node make.PreDecrement = true
+is_node make.Prefix = true
+is_node make.SizeofExpression = true
+is_node make.SizeofType = true
+is_node make.Cast = true
+is_node make.Conditional = true
+is_node make.Assign = true
+is_node make.Comma = true
+is_node make.Braced = true
+is_node make.LocalObject = true
+is_node make.Block = true
+is_node make.ExpressionStatement = true
+is_node make.If = true
+is_node make.While = true
+is_node make.Do = true
+is_node make.For = true
+is_node make.Break = true
+is_node make.Continue = true
+is_node make.Return = true
+is_node make.Region = true
+is_node make.StructUnit = true
+is_node make.RegisterUnit = true
+is_node make.External = true
+is_node (make.Binary _) = true
+is_node (make.AssignWith _) = true
+is_node _ = false
+
+-- how many of the pieces are parts, and no tokens
+unfoldable pub parts_among : List Piece → ℕ
+parts_among [] = 0
+parts_among (token _ ∷ pieces) = parts_among pieces
+parts_among (part _ ∷ pieces) = parts_among pieces + 1
