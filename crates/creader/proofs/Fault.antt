@@ -1,2 +1,6 @@
 mod Steps
 mod Locality
+mod Kinds
+mod Samples
+mod Done
+mod Goes
