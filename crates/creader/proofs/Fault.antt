@@ -4,3 +4,5 @@ mod Kinds
 mod Samples
 mod Done
 mod Goes
+mod Table
+mod Checks
