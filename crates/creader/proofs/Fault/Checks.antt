@@ -79,3 +79,31 @@ short_is_read (part.ChainTail _) = refl
 short_is_read (part.Words words.Sign) = refl
 short_is_read (part.Words _) = refl
 short_is_read _ = refl
+
+-- where a part may be ended, so may what each of its rules puts in its place
+abbrev pub rules_test : Part → Kind → Bool
+rules_test p following = not (allows (ends_before p) following) || every (λ rule. completes rule.symbols following) (rules p)
+
+pub rules_complete : (p : Part) → every_kind (rules_test p) ≡ true
+unfolding rules chain_rules chain_tail_rules words_rules any_accepts accepts keyword_number punctuator_number short level_number ends_before allows extenders operators_from pick completion completes
+rules_complete (part.Chain chain.Or) = refl
+rules_complete (part.Chain _) = refl
+rules_complete (part.ChainTail chain.Or) = refl
+rules_complete (part.ChainTail _) = refl
+rules_complete (part.Words words.Sign) = refl
+rules_complete (part.Words _) = refl
+rules_complete _ = refl
+
+-- no rule takes the end token
+abbrev pub end_test : Part → Bool
+end_test p = leaves_token (choose (rules p) kind.End) && every (λ rule. spares_end rule.symbols) (rules p)
+
+pub end_is_left : (p : Part) → end_test p ≡ true
+unfolding rules chain_rules chain_tail_rules words_rules choose any_accepts accepts keyword_number punctuator_number spares_end
+end_is_left (part.Chain chain.Or) = refl
+end_is_left (part.Chain _) = refl
+end_is_left (part.ChainTail chain.Or) = refl
+end_is_left (part.ChainTail _) = refl
+end_is_left (part.Words words.Sign) = refl
+end_is_left (part.Words _) = refl
+end_is_left _ = refl
