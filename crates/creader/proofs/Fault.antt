@@ -6,3 +6,4 @@ mod Done
 mod Goes
 mod Table
 mod Checks
+mod Completion

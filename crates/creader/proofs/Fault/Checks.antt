@@ -49,12 +49,12 @@ spares_end (symbol.Take t ∷ symbols) = not (accepts t kind.End) && spares_end 
 spares_end (symbol.Reduce p ∷ symbols) = spares_end symbols
 spares_end (symbol.Read p ∷ symbols) = spares_end symbols
 
-abbrev is_staying : Move → Bool
+abbrev pub is_staying : Move → Bool
 is_staying move.Stay = true
 is_staying move.Take = false
 
 -- a rule that is chosen, if one is, leaves the token
-abbrev leaves_token : Option Rule → Bool
+abbrev pub leaves_token : Option Rule → Bool
 leaves_token None = true
 leaves_token (Some rule) = is_staying rule.move
 
