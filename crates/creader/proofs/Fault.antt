@@ -7,3 +7,4 @@ mod Goes
 mod Table
 mod Checks
 mod Completion
+mod Standing
