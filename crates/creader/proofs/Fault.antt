@@ -8,3 +8,4 @@ mod Table
 mod Checks
 mod Completion
 mod Standing
+pub mod First
