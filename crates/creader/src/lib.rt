@@ -3,4 +3,4 @@
 
 mod laws;
 
-pub use laws::{accepted_is_text, text_is_accepted};
+pub use laws::{accepted_is_text, first_fault, one_text, text_is_accepted};

@@ -1,5 +1,5 @@
 -- What is computed of the tables.
-use Rattle.std.proofs.Common.{◌≡◌, ℕ, Bool, true, false, ◌&&◌, ◌||◌, not, List, [], ◌∷◌, ◌++◌, Option, Some, None, refl}
+use Rattle.std.proofs.Common.{◌≡◌, Bool, true, false, ◌&&◌, ◌||◌, not, List, [], ◌∷◌, ◌++◌, Option, Some, None, refl}
 use Rattle.csyn.specs.declared.keyword.Keyword.{Keyword}
 use Rattle.csyn.specs.declared.keyword.Keyword.TheVariants as keyword
 use Rattle.csyn.specs.declared.punctuator.Punctuator.{Punctuator}

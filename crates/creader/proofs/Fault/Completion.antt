@@ -1,5 +1,5 @@
 -- Symbols that can be completed are done with their completion, and what each rule keeps.
-use Rattle.std.proofs.Common.{◌≡◌, Bool, true, false, ◌&&◌, ◌||◌, not, List, [], ◌∷◌, ◌++◌, map, Option, Some, None, refl, sym, ◌∙◌, subst, ap, append_assoc}
+use Rattle.std.proofs.Common.{◌≡◌, Bool, true, false, ◌&&◌, ◌||◌, not, List, [], ◌∷◌, ◌++◌, Some, refl, subst, ap, append_assoc}
 use Rattle.std.proofs.lemmas.List.{map-append}
 use Rattle.csyn.specs.declared.token.Token.{Token}
 use Rattle.cgrammar.specs.declared.kind.Kind.{Kind}
@@ -9,13 +9,12 @@ use Rattle.cgrammar.specs.declared.part.Move.TheVariants as move
 use Rattle.cgrammar.specs.declared.part.Symbol.{Symbol}
 use Rattle.cgrammar.specs.declared.part.Symbol.TheVariants as symbol
 use Rattle.cgrammar.specs.Kind.{kind_of}
-use Rattle.cgrammar.specs.Terminal.{accepts}
 use Rattle.cgrammar.specs.Rules.{Rule, rules, any_accepts, choose}
 use Rattle.creader.proofs.Complete.Reading.{allows}
 use Rattle.creader.proofs.Fault.Kinds.{and_left, and_right, every, every_kind_at}
 use Rattle.creader.proofs.Fault.Samples.{sample, samples, kind-sample}
 use Rattle.creader.proofs.Fault.Done.{Done, done_nothing, done_reduce, done_take, done_both}
-use Rattle.creader.proofs.Fault.Goes.{goes, goes_on_tokens}
+use Rattle.creader.proofs.Fault.Goes.{goes_on_tokens}
 use Rattle.creader.proofs.Fault.Table.{short, ends_before, pick}
 use Rattle.creader.proofs.Fault.Checks.{completion, first, completes, spares_end, pick_accepted, short_test, short_is_read, rules_test, rules_complete, leaves_token, end_is_left}
 
@@ -46,11 +45,11 @@ completed (symbol.Reduce p ∷ symbols) token tokens h =
     done_reduce p symbols (samples (completion symbols)) (token ∷ tokens) (completed symbols token tokens h)
 completed (symbol.Take t ∷ symbols) token tokens h =
     done_take t symbols (sample (pick t)) (samples (completion symbols)) (token ∷ tokens) (rw kind-sample (pick_accepted t))
-        (completed symbols token tokens h)
+    (completed symbols token tokens h)
 completed (symbol.Read p ∷ symbols) token tokens h =
     rw map-append (done_both (symbol.Read p ∷ []) symbols (samples (short p)) (samples (completion symbols)) (token ∷ tokens)
-        (before_completion p (completion symbols) token tokens (and_left _ _ h))
-        (completed symbols token tokens (and_right _ (completes symbols (kind_of token)) h)))
+    (before_completion p (completion symbols) token tokens (and_left _ _ h))
+    (completed symbols token tokens (and_right _ (completes symbols (kind_of token)) h)))
 
 first-append : (one other : List Kind) (following : Kind) → first (one ++ other) following ≡ first one (first other following)
 first-append [] other following = refl
@@ -95,7 +94,7 @@ pub rule_completes : (p : Part) (kind following : Kind) (rule : Rule) → choose
     → allows (ends_before p) following ≡ true → completes rule.symbols following ≡ true
 rule_completes p kind following rule chosen h =
     every_chosen (λ r. completes r.symbols following) (rules p) kind rule
-        (implied _ _ (every_kind_at (rules_test p) (rules_complete p) following) h) chosen
+    (implied _ _ (every_kind_at (rules_test p) (rules_complete p) following) h) chosen
 
 pub rule_spares_end : (p : Part) (kind : Kind) (rule : Rule) → choose (rules p) kind ≡ Some rule → spares_end rule.symbols ≡ true
 rule_spares_end p kind rule chosen = every_chosen (λ r. spares_end r.symbols) (rules p) kind rule (and_right _ _ (end_is_left p)) chosen

@@ -1,5 +1,5 @@
 -- Where the machine stops before its end, the next token is the first that can't stand.
-use Rattle.std.proofs.Common.{◌≡◌, ℕ, ◌+◌, ◌-◌, ◌<◌, ◌⊎◌, inl, inr, Bool, true, false, List, [], ◌∷◌, ◌++◌, length, take, Option, Some, None, refl, sym, ◌∙◌, subst, ap, arith, append_assoc, length-append}
+use Rattle.std.proofs.Common.{◌≡◌, ◌+◌, ◌-◌, ◌<◌, ◌⊎◌, inl, inr, Bool, true, false, List, [], ◌∷◌, ◌++◌, length, take, Option, Some, None, refl, sym, ◌∙◌, subst, ap, arith, append_assoc, length-append}
 use Rattle.std.proofs.lemmas.List.{take_at, length_push}
 use Rattle.csyn.specs.declared.token.Token.{Token}
 use Rattle.cgrammar.specs.declared.kind.Kind.TheVariants as kind
@@ -15,13 +15,13 @@ use Rattle.cgrammar.specs.Text.{Written, leaf, IsText, IsFirstFault}
 use Rattle.creader.specs.Machine.{State, at, reduce, step, Reaches, here, next, start}
 use Rattle.creader.specs.Source.{EndsOnce}
 use Rattle.creader.proofs.Complete.Reading.{allows}
-use Rattle.creader.proofs.Fault.Steps.{Stops, one_end, onwards, take_step}
+use Rattle.creader.proofs.Fault.Steps.{one_end, onwards, take_step}
 use Rattle.creader.proofs.Fault.Locality.{Way, way}
 use Rattle.creader.proofs.Fault.Samples.{sample, samples, kind-sample}
 use Rattle.creader.proofs.Fault.Table.{ends_before}
 use Rattle.creader.proofs.Fault.Checks.{completion, first, completes, spares_end}
 use Rattle.creader.proofs.Fault.Completion.{completed}
-use Rattle.creader.proofs.Fault.Standing.{Ends, ends, bottom, Above, Standing, above, last, over, stands}
+use Rattle.creader.proofs.Fault.Standing.{Ends, ends, bottom, Standing, above, last, over, stands}
 
 -- what the two main laws say
 abbrev pub Sound : Type 0
@@ -93,7 +93,7 @@ unfolding step
 no_further whole tokens symbols values token rest stop w others written text =
     let text' : IsText written (w.front ++ token ∷ others) = rw append_assoc at text in
     let same = one_end (w.ahead token rest others refl) (whole (w.front ++ token ∷ others) written text')
-        (stops_alike symbols values token rest others stop) refl in
+    (stops_alike symbols values token rest others stop) refl in
     let same' : token ∷ others ≡ [] = ap (λ (x : State). x.tokens) same in cc
 
 is_fault : Sound → Whole → (tokens : List Token) (symbols : List Symbol) (values : List Written) (token : Token) (rest : List Token)
@@ -111,11 +111,11 @@ is_fault sound whole tokens symbols values token rest once reached stop = go (wa
         let up_to : take (length w.front) tokens ≡ w.front = ap (take (length w.front)) w.split ∙ take_at w.front (token ∷ rest) (length w.front) refl in
         let split : tokens ≡ (w.front ++ token ∷ []) ++ rest = w.split ∙ sym (append_assoc w.front (token ∷ []) rest) in
         let and_next : take (length w.front + 1) tokens ≡ w.front ++ token ∷ [] =
-            ap (take (length w.front + 1)) split ∙ take_at (w.front ++ token ∷ []) rest (length w.front + 1) (length_push w.front token) in
+        ap (take (length w.front + 1)) split ∙ take_at (w.front ++ token ∷ []) rest (length w.front + 1) (length_push w.front token) in
         rw place (record {
-            within = omega arith;
-            goes_on = rw up_to (goes_on sound tokens b once reached token rest refl w);
-            stops = rw and_next (no_further whole tokens symbols values token rest stop w);
+          within = omega arith;
+          goes_on = rw up_to (goes_on sound tokens b once reached token rest refl w);
+          stops = rw and_next (no_further whole tokens symbols values token rest stop w);
         })
 
 pub first_fault : Sound → Whole → (tokens rest : List Token) (symbols : List Symbol) (values : List Written) → EndsOnce tokens

@@ -1,5 +1,5 @@
 -- The machine on kinds of tokens alone, which can be computed.
-use Rattle.std.proofs.Common.{◌≡◌, ℕ, suc, Bool, true, false, ◌&&◌, List, [], ◌∷◌, ◌++◌, Option, Some, None, refl, sym, subst}
+use Rattle.std.proofs.Common.{◌≡◌, ℕ, suc, Bool, true, false, ◌&&◌, List, [], ◌∷◌, ◌++◌, Option, Some, None, refl}
 use Rattle.std.specs.Prelude.{zero}
 use Rattle.csyn.specs.declared.token.Token.{Token}
 use Rattle.cgrammar.specs.declared.kind.Kind.{Kind}
@@ -24,11 +24,16 @@ goes (suc n) (symbol.Reduce p ∷ symbols) kinds following = goes n symbols kind
 goes (suc n) (symbol.Take t ∷ symbols) [] following = false
 goes (suc n) (symbol.Take t ∷ symbols) (kind ∷ kinds) following = accepts t kind && goes n symbols kinds following
 goes (suc n) (symbol.Read p ∷ symbols) [] following = elim (choose (rules p) following) [
-    None ↦ false | Some rule ↦ elim rule.move [ move.Take ↦ false | move.Stay ↦ goes n (rule.symbols ++ symbols) [] following ] ]
+  | None ↦ false
+  | Some rule ↦ elim rule.move [ move.Take ↦ false | move.Stay ↦ goes n (rule.symbols ++ symbols) [] following ]
+]
 goes (suc n) (symbol.Read p ∷ symbols) (kind ∷ kinds) following = elim (choose (rules p) kind) [
-    None ↦ false | Some rule ↦ elim rule.move [
-        move.Take ↦ goes n (rule.symbols ++ symbols) kinds following
-        | move.Stay ↦ goes n (rule.symbols ++ symbols) (kind ∷ kinds) following ] ]
+  | None ↦ false
+  | Some rule ↦ elim rule.move [
+    | move.Take ↦ goes n (rule.symbols ++ symbols) kinds following
+    | move.Stay ↦ goes n (rule.symbols ++ symbols) (kind ∷ kinds) following
+  ]
+]
 
 -- what is known of fewer steps
 abbrev Fewer : ℕ → Token → List Token → Type 0
@@ -62,10 +67,10 @@ read_more n p symbols kind kinds token tokens fewer h = go (choose (rules p) kin
         → Done (symbol.Read p ∷ symbols) (samples (kind ∷ kinds)) (token ∷ tokens)
     follow rule chosen move.Take is =
         done_rule_take p rule symbols (sample kind) (samples kinds) (token ∷ tokens) (on_sample rule chosen) is
-            (fewer (rule.symbols ++ symbols) kinds (rw (chosen, is, goes) at h))
+        (fewer (rule.symbols ++ symbols) kinds (rw (chosen, is, goes) at h))
     follow rule chosen move.Stay is =
         done_rule_stay p rule symbols (sample kind) (samples (kind ∷ kinds)) (token ∷ tokens) (samples kinds ++ token ∷ tokens)
-            (on_sample rule chosen) is refl (fewer (rule.symbols ++ symbols) (kind ∷ kinds) (rw (chosen, is, goes) at h))
+        (on_sample rule chosen) is refl (fewer (rule.symbols ++ symbols) (kind ∷ kinds) (rw (chosen, is, goes) at h))
 
     go : (found : Option Rule) → choose (rules p) kind ≡ found → Done (symbol.Read p ∷ symbols) (samples (kind ∷ kinds)) (token ∷ tokens)
     go None chosen = let h' = rw (chosen, goes) at h in cc
@@ -83,7 +88,7 @@ goes_on_tokens (suc n) (symbol.Reduce p ∷ symbols) kinds token tokens h =
 goes_on_tokens (suc n) (symbol.Take t ∷ symbols) [] token tokens h = cc
 goes_on_tokens (suc n) (symbol.Take t ∷ symbols) (kind ∷ kinds) token tokens h =
     done_take t symbols (sample kind) (samples kinds) (token ∷ tokens) (rw kind-sample (and_left _ _ h))
-        (goes_on_tokens n symbols kinds token tokens (and_right (accepts t kind) _ h))
+    (goes_on_tokens n symbols kinds token tokens (and_right (accepts t kind) _ h))
 goes_on_tokens (suc n) (symbol.Read p ∷ symbols) [] token tokens h =
     read_last n p symbols token tokens (λ symbols' kinds'. goes_on_tokens n symbols' kinds' token tokens) h
 goes_on_tokens (suc n) (symbol.Read p ∷ symbols) (kind ∷ kinds) token tokens h =

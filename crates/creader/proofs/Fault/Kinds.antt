@@ -33,22 +33,22 @@ every_at p x xs n h = every_or p (x ∷ xs) n x h (and_left (p x) (every p xs) h
 abbrev later_keywords : List Keyword
 later_keywords =
     keyword.Auto ∷ keyword.Boolean ∷ keyword.Break ∷ keyword.Case ∷ keyword.Char ∷ keyword.Complex ∷ keyword.Const ∷ keyword.Continue
-     ∷ keyword.Default ∷ keyword.Do ∷ keyword.Double ∷ keyword.Else ∷ keyword.Enum ∷ keyword.Extern ∷ keyword.Float ∷ keyword.For
-     ∷ keyword.Goto ∷ keyword.If ∷ keyword.Imaginary ∷ keyword.Inline ∷ keyword.Int ∷ keyword.Long ∷ keyword.Region ∷ keyword.Register
-     ∷ keyword.Restrict ∷ keyword.Return ∷ keyword.Short ∷ keyword.Signed ∷ keyword.Sizeof ∷ keyword.Static ∷ keyword.Struct
-     ∷ keyword.Switch ∷ keyword.Typedef ∷ keyword.Union ∷ keyword.Unsigned ∷ keyword.Void ∷ keyword.Volatile ∷ keyword.While ∷ []
+    ∷ keyword.Default ∷ keyword.Do ∷ keyword.Double ∷ keyword.Else ∷ keyword.Enum ∷ keyword.Extern ∷ keyword.Float ∷ keyword.For
+    ∷ keyword.Goto ∷ keyword.If ∷ keyword.Imaginary ∷ keyword.Inline ∷ keyword.Int ∷ keyword.Long ∷ keyword.Region ∷ keyword.Register
+    ∷ keyword.Restrict ∷ keyword.Return ∷ keyword.Short ∷ keyword.Signed ∷ keyword.Sizeof ∷ keyword.Static ∷ keyword.Struct
+    ∷ keyword.Switch ∷ keyword.Typedef ∷ keyword.Union ∷ keyword.Unsigned ∷ keyword.Void ∷ keyword.Volatile ∷ keyword.While ∷ []
 
 abbrev later_punctuators : List Punctuator
 later_punctuators =
     punctuator.ShiftRightAssign ∷ punctuator.Arrow ∷ punctuator.Increment ∷ punctuator.Decrement ∷ punctuator.ShiftLeft
-     ∷ punctuator.ShiftRight ∷ punctuator.LessEqual ∷ punctuator.GreaterEqual ∷ punctuator.Equal ∷ punctuator.NotEqual
-     ∷ punctuator.LogicalAnd ∷ punctuator.LogicalOr ∷ punctuator.MultiplyAssign ∷ punctuator.DivideAssign ∷ punctuator.RemainderAssign
-     ∷ punctuator.AddAssign ∷ punctuator.SubtractAssign ∷ punctuator.AndAssign ∷ punctuator.XorAssign ∷ punctuator.OrAssign
-     ∷ punctuator.LeftBracket ∷ punctuator.RightBracket ∷ punctuator.LeftParenthesis ∷ punctuator.RightParenthesis
-     ∷ punctuator.LeftBrace ∷ punctuator.RightBrace ∷ punctuator.Dot ∷ punctuator.Ampersand ∷ punctuator.Star ∷ punctuator.Plus
-     ∷ punctuator.Minus ∷ punctuator.Tilde ∷ punctuator.Exclamation ∷ punctuator.Slash ∷ punctuator.Percent ∷ punctuator.Less
-     ∷ punctuator.Greater ∷ punctuator.Caret ∷ punctuator.Bar ∷ punctuator.Question ∷ punctuator.Colon ∷ punctuator.Semicolon
-     ∷ punctuator.Assign ∷ punctuator.Comma ∷ punctuator.Hash ∷ []
+    ∷ punctuator.ShiftRight ∷ punctuator.LessEqual ∷ punctuator.GreaterEqual ∷ punctuator.Equal ∷ punctuator.NotEqual
+    ∷ punctuator.LogicalAnd ∷ punctuator.LogicalOr ∷ punctuator.MultiplyAssign ∷ punctuator.DivideAssign ∷ punctuator.RemainderAssign
+    ∷ punctuator.AddAssign ∷ punctuator.SubtractAssign ∷ punctuator.AndAssign ∷ punctuator.XorAssign ∷ punctuator.OrAssign
+    ∷ punctuator.LeftBracket ∷ punctuator.RightBracket ∷ punctuator.LeftParenthesis ∷ punctuator.RightParenthesis
+    ∷ punctuator.LeftBrace ∷ punctuator.RightBrace ∷ punctuator.Dot ∷ punctuator.Ampersand ∷ punctuator.Star ∷ punctuator.Plus
+    ∷ punctuator.Minus ∷ punctuator.Tilde ∷ punctuator.Exclamation ∷ punctuator.Slash ∷ punctuator.Percent ∷ punctuator.Less
+    ∷ punctuator.Greater ∷ punctuator.Caret ∷ punctuator.Bar ∷ punctuator.Question ∷ punctuator.Colon ∷ punctuator.Semicolon
+    ∷ punctuator.Assign ∷ punctuator.Comma ∷ punctuator.Hash ∷ []
 
 abbrev later_kinds : List Kind
 later_kinds = kind.RegisterName ∷ kind.LocationName ∷ kind.Number ∷ kind.Character ∷ kind.Literal ∷ kind.Standard ∷ kind.Uint32 ∷ kind.End ∷ []

@@ -1,5 +1,5 @@
 -- A step looks at no token behind the next one.
-use Rattle.std.proofs.Common.{◌≡◌, true, List, [], ◌∷◌, ◌++◌, Option, Some, None, refl, sym, ◌∙◌, ap, subst}
+use Rattle.std.proofs.Common.{◌≡◌, true, List, [], ◌∷◌, ◌++◌, Some, refl, sym, ap, subst}
 use Rattle.csyn.specs.declared.token.Token.{Token}
 use Rattle.cgrammar.specs.declared.production.Production.{Production}
 use Rattle.cgrammar.specs.declared.terminal.Terminal.{Terminal}
@@ -13,7 +13,7 @@ use Rattle.cgrammar.specs.Terminal.{accepts}
 use Rattle.cgrammar.specs.Rules.{Rule, rules, choose}
 use Rattle.cgrammar.specs.Text.{Written, leaf}
 use Rattle.creader.specs.Machine.{State, at, moved, reduce, step, Reaches, here, next}
-use Rattle.creader.proofs.Fault.Steps.{take_step, read_step, taken, Followed, followed}
+use Rattle.creader.proofs.Fault.Steps.{take_step, read_step, taken, followed}
 
 -- From the one state to the other the tokens of front were taken. They lead to the same state behind the last of them, whatever tokens
 -- stand there, and if the next token is the same to the same last state.
@@ -28,7 +28,10 @@ pub record Way (a b : State) : Type 0 where
 
 none_taken : (a : State) → Way a a
 none_taken a = record {
-  front = []; symbols = a.symbols; values = a.values; split = refl;
+  front = [];
+  symbols = a.symbols;
+  values = a.values;
+  split = refl;
   behind = λ others. here;
   ahead = λ token tokens others e. here;
 }
@@ -37,7 +40,10 @@ before_reduce : (p : Production) (symbols : List Symbol) (values : List Written)
     → Way (at symbols (reduce p values) tokens) b → Way (at (symbol.Reduce p ∷ symbols) values tokens) b
 unfolding step
 before_reduce p symbols values tokens b way = record {
-  front = way.front; symbols = way.symbols; values = way.values; split = way.split;
+  front = way.front;
+  symbols = way.symbols;
+  values = way.values;
+  split = way.split;
   behind = λ others. next refl (way.behind others);
   ahead = λ token rest others e. next refl (way.ahead token rest others e);
 }
@@ -46,7 +52,10 @@ before_take : (t : Terminal) (symbols : List Symbol) (values : List Written) (to
     → accepts t (kind_of token) ≡ true
     → Way (at symbols (leaf token ∷ values) tokens) b → Way (at (symbol.Take t ∷ symbols) values (token ∷ tokens)) b
 before_take t symbols values token tokens b fits way = record {
-  front = token ∷ way.front; symbols = way.symbols; values = way.values; split = ap (λ x. token ∷ x) way.split;
+  front = token ∷ way.front;
+  symbols = way.symbols;
+  values = way.values;
+  split = ap (λ x. token ∷ x) way.split;
   behind = λ others. next (take_step t symbols values token (way.front ++ others) fits) (way.behind others);
   ahead = λ next_one rest others e. next (take_step t symbols values token (way.front ++ next_one ∷ others) fits) (way.ahead next_one rest others e);
 }
@@ -55,7 +64,10 @@ before_taking_rule : (p : Part) (rule : Rule) (symbols : List Symbol) (values : 
     → choose (rules p) (kind_of token) ≡ Some rule → rule.move ≡ move.Take
     → Way (at (rule.symbols ++ symbols) (leaf token ∷ values) tokens) b → Way (at (symbol.Read p ∷ symbols) values (token ∷ tokens)) b
 before_taking_rule p rule symbols values token tokens b chosen takes way = record {
-  front = token ∷ way.front; symbols = way.symbols; values = way.values; split = ap (λ x. token ∷ x) way.split;
+  front = token ∷ way.front;
+  symbols = way.symbols;
+  values = way.values;
+  split = ap (λ x. token ∷ x) way.split;
   behind = λ others. next (step_to (way.front ++ others)) (way.behind others);
   ahead = λ next_one rest others e. next (step_to (way.front ++ next_one ∷ others)) (way.ahead next_one rest others e);
 }
@@ -76,16 +88,22 @@ before_staying_rule p rule symbols values token tokens b chosen stays way =
     go : (front : List Token) (symbols' : List Symbol) (values' : List Written) → token ∷ tokens ≡ front ++ b.tokens
         → ((others : List Token) → Reaches (at (rule.symbols ++ symbols) values (front ++ others)) (at symbols' values' others))
         → ((next_one : Token) (rest others : List Token) → b.tokens ≡ next_one ∷ rest
-            → Reaches (at (rule.symbols ++ symbols) values (front ++ next_one ∷ others)) (at b.symbols b.values (next_one ∷ others)))
+        → Reaches (at (rule.symbols ++ symbols) values (front ++ next_one ∷ others)) (at b.symbols b.values (next_one ∷ others)))
         → Way (at (symbol.Read p ∷ symbols) values (token ∷ tokens)) b
     go [] symbols' values' split behind ahead = record {
-      front = []; symbols = symbol.Read p ∷ symbols; values = values; split = split;
+      front = [];
+      symbols = symbol.Read p ∷ symbols;
+      values = values;
+      split = split;
       behind = λ others. here;
       ahead = λ next_one rest others e. next (step_to next_one others cc) (ahead next_one rest others e);
     }
     go (first ∷ front) symbols' values' split behind ahead =
         let same : token ≡ first = cc in record {
-          front = first ∷ front; symbols = symbols'; values = values'; split = split;
+          front = first ∷ front;
+          symbols = symbols';
+          values = values';
+          split = split;
           behind = λ others. next (step_to first (front ++ others) same) (behind others);
           ahead = λ next_one rest others e. next (step_to first (front ++ next_one ∷ others) same) (ahead next_one rest others e);
         }

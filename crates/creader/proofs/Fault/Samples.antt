@@ -1,5 +1,5 @@
 -- A token of each kind.
-use Rattle.std.proofs.Common.{◌≡◌, Bool, true, false, ℕ, List, [], ◌∷◌, ◌++◌, map, codes, refl}
+use Rattle.std.proofs.Common.{◌≡◌, false, List, [], map, codes, refl}
 use Rattle.csyn.specs.declared.token.Token.{Token}
 use Rattle.csyn.specs.declared.token.TokenKind.{TokenKind}
 use Rattle.csyn.specs.declared.token.TokenKind.TheVariants as token

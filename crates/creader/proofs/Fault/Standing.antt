@@ -1,5 +1,5 @@
 -- What the symbols are on the way from the start: they can be completed, and the end token is taken last.
-use Rattle.std.proofs.Common.{◌≡◌, ◌≢◌, ◌⊎◌, inl, inr, Bool, true, false, not, ◌&&◌, List, [], ◌∷◌, ◌++◌, All, Option, Some, None, refl, sym, subst, append_assoc}
+use Rattle.std.proofs.Common.{◌≡◌, ◌≢◌, ◌⊎◌, inl, inr, Bool, true, not, ◌&&◌, List, [], ◌∷◌, ◌++◌, All, Some, refl, sym, subst, append_assoc}
 use Rattle.std.proofs.lemmas.List.Elements.{All-head, All-tail}
 use Rattle.csyn.specs.declared.token.Token.{Token}
 use Rattle.cgrammar.specs.declared.kind.Kind.{Kind}
@@ -15,7 +15,7 @@ use Rattle.cgrammar.specs.declared.part.Symbol.TheVariants as symbol
 use Rattle.cgrammar.specs.Kind.{kind_of}
 use Rattle.cgrammar.specs.Terminal.{accepts}
 use Rattle.cgrammar.specs.Rules.{Rule, rules, choose}
-use Rattle.cgrammar.specs.Text.{Written, leaf}
+use Rattle.cgrammar.specs.Text.{Written}
 use Rattle.creader.specs.Machine.{State, at, moved, reduce, step, Reaches, here, next}
 use Rattle.creader.specs.Source.{EndsOnce}
 use Rattle.creader.proofs.Fault.Steps.{taken, followed}
@@ -66,7 +66,7 @@ spared t b h e = let h' = rw e at h in cc
 not_end : (t : Terminal) (b : Bool) (token : Token) (tokens : List Token) → (not (accepts t kind.End) && b) ≡ true
     → accepts t (kind_of token) ≡ true → Ends (token ∷ tokens) → Ends tokens
 not_end t b token tokens h fits (inl (is, empty)) = absurd (spared t b h (rw is at fits))
-not_end t b token tokens h fits (inr (isn't, more)) = more
+not_end t b token tokens h fits (inr (not_it, more)) = more
 
 follow_rule : (p : Part) (rule : Rule) (m : Move) (upper : List Symbol) (values : List Written) (token : Token) (tokens : List Token)
     → choose (rules p) (kind_of token) ≡ Some rule → rule.move ≡ m → completes (symbol.Read p ∷ upper) kind.End ≡ true
@@ -88,7 +88,7 @@ follow_rule p rule m upper values token tokens chosen is can spares once = go m 
 
     behind : rule.move ≡ move.Take → Ends (token ∷ tokens) → Ends tokens
     behind takes (inl (is_end, empty)) = absurd (end_stays p rule (rw is_end at chosen) takes)
-    behind takes (inr (isn't, more)) = more
+    behind takes (inr (not_it, more)) = more
 
     go : (m : Move) → rule.move ≡ m → let b = moved m (rule.symbols ++ (upper ++ bottom)) values token tokens in Above b.symbols b.tokens
     go move.Take is = record { upper = rule.symbols ++ upper; is = sym (append_assoc rule.symbols upper bottom); can_end = can_end; spares = spares'; ahead = behind is once }
@@ -104,18 +104,18 @@ step_above [] values (token ∷ tokens) b e can spares once =
   where
     go : kind_of token ≡ kind.End → Ends (token ∷ tokens) → tokens ≡ []
     go is (inl (_, empty)) = empty
-    go is (inr (isn't, more)) = absurd (isn't is)
+    go is (inr (not_it, more)) = absurd (not_it is)
 step_above (symbol.Reduce p ∷ upper) values (token ∷ tokens) b e can spares once =
     let same : at (upper ++ bottom) (reduce p values) (token ∷ tokens) ≡ b = cc in
     subst (λ x. Standing x.symbols x.tokens) same (above (record { upper = upper; is = refl; can_end = can; spares = spares; ahead = once }))
 step_above (symbol.Take t ∷ upper) values (token ∷ tokens) b e can spares once =
     let found = taken t (upper ++ bottom) values token tokens b e in
     subst (λ x. Standing x.symbols x.tokens) found.1
-        (above (record { upper = upper; is = refl; can_end = can; spares = and_right _ _ spares; ahead = not_end t _ token tokens spares found.0 once }))
+    (above (record { upper = upper; is = refl; can_end = can; spares = and_right _ _ spares; ahead = not_end t _ token tokens spares found.0 once }))
 step_above (symbol.Read p ∷ upper) values (token ∷ tokens) b e can spares once =
     let found = followed p (upper ++ bottom) values token tokens b e in
     subst (λ x. Standing x.symbols x.tokens) found.is
-        (above (follow_rule p found.rule found.rule.move upper values token tokens found.chosen refl can spares once))
+    (above (follow_rule p found.rule found.rule.move upper values token tokens found.chosen refl can spares once))
 
 step_stands : (symbols : List Symbol) (values : List Written) (tokens : List Token) (b : State) → step symbols values tokens ≡ Some b
     → Standing symbols tokens → Standing b.symbols b.tokens

@@ -1,5 +1,5 @@
 -- The machine has one way only, and what makes a step.
-use Rattle.std.proofs.Common.{◌≡◌, Bool, true, false, List, [], ◌∷◌, ◌++◌, Option, Some, None, refl, sym, ◌∙◌, ap, subst, true≢false}
+use Rattle.std.proofs.Common.{◌≡◌, Bool, true, false, List, ◌∷◌, ◌++◌, Option, Some, None, refl, subst}
 use Rattle.csyn.specs.declared.token.Token.{Token}
 use Rattle.cgrammar.specs.declared.terminal.Terminal.{Terminal}
 use Rattle.cgrammar.specs.declared.part.Part.{Part}
@@ -9,7 +9,7 @@ use Rattle.cgrammar.specs.Kind.{kind_of}
 use Rattle.cgrammar.specs.Terminal.{accepts}
 use Rattle.cgrammar.specs.Rules.{Rule, rules, choose}
 use Rattle.cgrammar.specs.Text.{Written, leaf}
-use Rattle.creader.specs.Machine.{State, at, moved, follow_rule, step, Reaches, here, next}
+use Rattle.creader.specs.Machine.{State, at, moved, step, Reaches, here, next}
 
 -- no step leads on
 abbrev pub Stops : State → Type 0
