@@ -154,7 +154,7 @@ pub enum Production {
 
 impl Production {
     ghost use Rattle.std.specs.Prelude.{◌≡◌, length};
-    ghost use Rattle.cgrammar.specs.Grammar.{template, parts_among, is_node};
+    ghost use Rattle.cgrammar.specs.Grammar.{template, own_nodes, parts_among, is_node};
 
     /// How many parts stand on its right side, tokens among them.
     #[tactic(auto, unfolding(crate::specs::Grammar::template))]
@@ -380,10 +380,10 @@ impl Production {
         }
     }
 
-    /// Whether it makes a node of the tree.
-    #[tactic(auto, unfolding(crate::specs::Grammar::is_node))]
-    pub fn is_node(self) -> bool
-        ensures { result ≡ is_node self }
+    /// How many nodes of the tree it makes: one or none.
+    #[tactic(auto, unfolding(crate::specs::Grammar::own_nodes))]
+    fn own_nodes(self) -> usize
+        ensures { result ≡ own_nodes self }
     {
         match self {
             Production::Name
@@ -421,7 +421,7 @@ impl Production {
             | Production::Region
             | Production::StructUnit
             | Production::RegisterUnit
-            | Production::External => true,
+            | Production::External => 1,
             Production::Identifier
             | Production::Parenthesised
             | Production::NoArguments
@@ -488,7 +488,14 @@ impl Production {
             | Production::NextParameter
             | Production::EndUnits
             | Production::NextUnit
-            | Production::Source => false,
+            | Production::Source => 0,
         }
+    }
+
+    /// Whether it makes a node of the tree.
+    pub fn is_node(self) -> bool
+        ensures { result ≡ is_node self }
+    {
+        self.own_nodes() == 1
     }
 }

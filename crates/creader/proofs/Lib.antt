@@ -1,3 +1,4 @@
 mod Complete
+mod Fault
 mod Reading
 mod Sound

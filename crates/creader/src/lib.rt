@@ -7,6 +7,6 @@ mod read;
 mod reader;
 
 pub use fault::ReadFault;
-pub use laws::{accepted_is_text, text_is_accepted};
+pub use laws::{accepted_is_text, first_fault, one_text, text_is_accepted};
 pub use read::read_entries;
 pub use reader::Entry;
