@@ -65,6 +65,8 @@ pub data Class : Type 0 where
   parameter : Class
   more_parameters : Class
   source : Class
+  -- one qualifier or more
+  some_qualifiers : Class
   -- of no part
   nothing : Class
 
@@ -135,12 +137,14 @@ class_number parameter = 37
 class_number more_parameters = 38
 class_number source = 39
 class_number nothing = 40
+class_number some_qualifiers = 41
 
 -- a tighter expression stands where a looser one may, but not the other way round
 unfoldable pub is_wider : Class → Class → Bool
 is_wider (level m) (level n) = nat_le n m
 is_wider callee (level n) = nat_le n 15
 is_wider (words _) integer = true
+is_wider some_qualifiers qualifiers = true
 is_wider stars pointers = true
 is_wider qualified pointers = true
 is_wider _ _ = false
@@ -308,7 +312,7 @@ home make.TypeName = type_name
 home make.Specified = type
 home make.Based = type
 home make.NoQualifiers = qualifiers
-home make.Qualified = qualifiers
+home make.Qualified = some_qualifiers
 home make.VoidBase = base
 home make.StructBase = base
 home make.StandardBase = base
@@ -423,7 +427,7 @@ template (make.FirstWord w) = token (word_token w) ∷ []
 template (make.NextWord all w) = part (before all w) ∷ token (word_token w) ∷ []
 template make.NoPointers = []
 template make.Star = part stars ∷ sign punctuator.Star ∷ []
-template make.QualifiedPointer = part pointers ∷ sign punctuator.Star ∷ token terminal.Qualifier ∷ part qualifiers ∷ []
+template make.QualifiedPointer = part pointers ∷ sign punctuator.Star ∷ part some_qualifiers ∷ []
 template make.NextPointer = part qualified ∷ sign punctuator.Star ∷ []
 template make.NoLengths = []
 template make.Length = sign punctuator.LeftBracket ∷ part (level 0) ∷ sign punctuator.RightBracket ∷ part lengths ∷ []

@@ -240,13 +240,13 @@ impl Production {
             | Production::Block
             | Production::Return
             | Production::FunctionBody
-            | Production::NextParameter => 3,
+            | Production::NextParameter
+            | Production::QualifiedPointer => 3,
             Production::Index
             | Production::CallFunction
             | Production::Call
             | Production::SizeofType
             | Production::Cast
-            | Production::QualifiedPointer
             | Production::Length
             | Production::StructMember
             | Production::Braced

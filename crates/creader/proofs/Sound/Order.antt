@@ -30,7 +30,7 @@ plain_classes = class.callee ∷ class.stars ∷ class.qualified ∷ class.ident
     ∷ class.init ∷ class.more_inits ∷ class.after_init_comma ∷ class.init_declarator ∷ class.more_init_declarators ∷ class.object
     ∷ class.statement ∷ class.optional_else ∷ class.for_first ∷ class.region_name ∷ class.items ∷ class.units ∷ class.unit
     ∷ class.register_type ∷ class.external_rest ∷ class.function_end ∷ class.parameters ∷ class.parameter ∷ class.more_parameters
-    ∷ class.source ∷ class.nothing ∷ []
+    ∷ class.source ∷ class.nothing ∷ class.some_qualifiers ∷ []
 
 words_classes : List Class
 words_classes = class.words every.Sign ∷ class.words every.Char ∷ class.words every.Length ∷ class.words every.Int ∷ class.words every.SignChar
@@ -62,6 +62,7 @@ wider-trans (class.level m) (class.level n) (class.level k) h g =
     le-leb k m (omega (arith, leb-true n m h, leb-true k n g))
 wider-trans class.callee (class.level n) (class.level k) h g = le-leb k 15 (omega (arith, leb-true n 15 h, leb-true k n g))
 wider-trans (class.words _) class.integer _ h g = absurd (false≢true g)
+wider-trans class.some_qualifiers class.qualifiers _ h g = absurd (false≢true g)
 wider-trans class.stars class.pointers _ h g = absurd (false≢true g)
 wider-trans class.qualified class.pointers _ h g = absurd (false≢true g)
 wider-trans _ _ _ h g = cc
