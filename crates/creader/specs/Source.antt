@@ -4,8 +4,8 @@ use Rattle.csyn.specs.declared.token.Token.{Token}
 use Rattle.cgrammar.specs.declared.kind.Kind.TheVariants as kind
 use Rattle.cgrammar.specs.Kind.{kind_of}
 use Rattle.cgrammar.specs.Text.{IsFirstFault}
-use Rattle.creader.specs.declared.fault.ReadFault.{ReadFault}
-use Rattle.creader.specs.declared.fault.ReadFault.TheVariants as fault
+use Rattle.creader.specs.declared.read_fault.ReadFault.{ReadFault}
+use Rattle.creader.specs.declared.read_fault.ReadFault.TheVariants as fault
 
 abbrev pub EndsOnce : List Token → Type 0
 EndsOnce tokens = (body : List Token) × (end : Token) × (tokens ≡ body ++ end ∷ []) × (kind_of end ≡ kind.End)

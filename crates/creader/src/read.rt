@@ -4,7 +4,7 @@ ghost use Rattle.cgrammar.specs.Text.{Written, IsText};
 ghost use Rattle.creader.specs.Entries.{entries};
 ghost use Rattle.creader.specs.Source.{EndsOnce, IsFaultOf};
 
-use crate::fault::ReadFault;
+use crate::read_fault::ReadFault;
 use crate::reader::{Entry, Reader};
 use cgrammar::Kind;
 use csyn::Token;

@@ -1,5 +1,5 @@
 ghost use Rattle.std.specs.Prelude.{◌≡◌};
-ghost use Rattle.creader.specs.declared.fault.ReadFault.TheVariants.{Memory};
+ghost use Rattle.creader.specs.declared.read_fault.ReadFault.TheVariants.{Memory};
 
 use std::alloc::{AllocError, AllocFailed};
 
