@@ -1,3 +1,4 @@
+pub mod Ends
 pub mod Moved
 pub mod Place
 pub mod Reduced
