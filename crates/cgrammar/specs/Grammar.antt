@@ -65,6 +65,8 @@ pub data Class : Type 0 where
   parameter : Class
   more_parameters : Class
   source : Class
+  -- one qualifier or more
+  some_qualifiers : Class
   -- of no part
   nothing : Class
 
@@ -135,12 +137,14 @@ class_number parameter = 37
 class_number more_parameters = 38
 class_number source = 39
 class_number nothing = 40
+class_number some_qualifiers = 41
 
 -- a tighter expression stands where a looser one may, but not the other way round
 unfoldable pub is_wider : Class → Class → Bool
 is_wider (level m) (level n) = nat_le n m
 is_wider callee (level n) = nat_le n 15
 is_wider (words _) integer = true
+is_wider some_qualifiers qualifiers = true
 is_wider stars pointers = true
 is_wider qualified pointers = true
 is_wider _ _ = false
@@ -308,7 +312,7 @@ home make.TypeName = type_name
 home make.Specified = type
 home make.Based = type
 home make.NoQualifiers = qualifiers
-home make.Qualified = qualifiers
+home make.Qualified = some_qualifiers
 home make.VoidBase = base
 home make.StructBase = base
 home make.StandardBase = base
@@ -423,7 +427,7 @@ template (make.FirstWord w) = token (word_token w) ∷ []
 template (make.NextWord all w) = part (before all w) ∷ token (word_token w) ∷ []
 template make.NoPointers = []
 template make.Star = part stars ∷ sign punctuator.Star ∷ []
-template make.QualifiedPointer = part pointers ∷ sign punctuator.Star ∷ token terminal.Qualifier ∷ part qualifiers ∷ []
+template make.QualifiedPointer = part pointers ∷ sign punctuator.Star ∷ part some_qualifiers ∷ []
 template make.NextPointer = part qualified ∷ sign punctuator.Star ∷ []
 template make.NoLengths = []
 template make.Length = sign punctuator.LeftBracket ∷ part (level 0) ∷ sign punctuator.RightBracket ∷ part lengths ∷ []
@@ -484,3 +488,119 @@ template make.NextParameter = sign punctuator.Comma ∷ part parameter ∷ part 
 template make.EndUnits = []
 template make.NextUnit = part unit ∷ part units ∷ []
 template make.Source = part units ∷ token terminal.End ∷ []
+
+-- The nodes of a tree are units, local objects, statements, initialisers in braces and expressions. Parentheses are none, nor is the
+-- name of a function that is called.
+unfoldable pub own_nodes : Production → ℕ
+own_nodes make.Identifier = 0
+own_nodes make.Name = 1
+own_nodes make.Number = 1
+own_nodes make.Character = 1
+own_nodes make.Parenthesised = 0
+own_nodes make.Index = 1
+own_nodes make.CallFunction = 1
+own_nodes make.Call = 1
+own_nodes make.Member = 1
+own_nodes make.Arrow = 1
+own_nodes make.PostIncrement = 1
+own_nodes make.PostDecrement = 1
+own_nodes make.PreIncrement = 1
+own_nodes make.PreDecrement = 1
+own_nodes make.Prefix = 1
+own_nodes make.SizeofExpression = 1
+own_nodes make.SizeofType = 1
+own_nodes make.Cast = 1
+own_nodes (make.Binary _) = 1
+own_nodes make.Conditional = 1
+own_nodes make.Assign = 1
+own_nodes (make.AssignWith _) = 1
+own_nodes make.Comma = 1
+own_nodes make.NoArguments = 0
+own_nodes make.SomeArguments = 0
+own_nodes make.EndArguments = 0
+own_nodes make.NextArgument = 0
+own_nodes make.NoExpression = 0
+own_nodes make.SomeExpression = 0
+own_nodes make.TypeName = 0
+own_nodes make.Specified = 0
+own_nodes make.Based = 0
+own_nodes make.NoQualifiers = 0
+own_nodes make.Qualified = 0
+own_nodes make.VoidBase = 0
+own_nodes make.StructBase = 0
+own_nodes make.StandardBase = 0
+own_nodes make.IntegerBase = 0
+own_nodes (make.FirstWord _) = 0
+own_nodes (make.NextWord _ _) = 0
+own_nodes make.NoPointers = 0
+own_nodes make.Star = 0
+own_nodes make.QualifiedPointer = 0
+own_nodes make.NextPointer = 0
+own_nodes make.NoLengths = 0
+own_nodes make.Length = 0
+own_nodes make.Declarator = 0
+own_nodes make.EndDeclarators = 0
+own_nodes make.NextDeclarator = 0
+own_nodes make.StructMember = 0
+own_nodes make.EndMembers = 0
+own_nodes make.NextMember = 0
+own_nodes make.NoLocation = 0
+own_nodes make.Location = 0
+own_nodes make.NoInitial = 0
+own_nodes make.Initial = 0
+own_nodes make.InitialExpression = 0
+own_nodes make.Braced = 1
+own_nodes make.EndInits = 0
+own_nodes make.CommaInits = 0
+own_nodes make.TrailingComma = 0
+own_nodes make.NextInit = 0
+own_nodes make.InitDeclarator = 0
+own_nodes make.EndInitDeclarators = 0
+own_nodes make.NextInitDeclarator = 0
+own_nodes make.LocalObject = 1
+own_nodes make.Block = 1
+own_nodes make.ExpressionStatement = 1
+own_nodes make.If = 1
+own_nodes make.NoElse = 0
+own_nodes make.Else = 0
+own_nodes make.While = 1
+own_nodes make.Do = 1
+own_nodes make.ForObject = 0
+own_nodes make.ForExpression = 0
+own_nodes make.For = 1
+own_nodes make.Break = 1
+own_nodes make.Continue = 1
+own_nodes make.Return = 1
+own_nodes make.RegionName = 0
+own_nodes make.Region = 1
+own_nodes make.EndItems = 0
+own_nodes make.NextObject = 0
+own_nodes make.NextStatement = 0
+own_nodes make.StructUnit = 1
+own_nodes make.RegisterUnit = 1
+own_nodes make.UnsignedInt = 0
+own_nodes make.RegisterUint32 = 0
+own_nodes make.External = 1
+own_nodes make.ObjectRest = 0
+own_nodes make.FunctionRest = 0
+own_nodes make.PrototypeEnd = 0
+own_nodes make.FunctionBody = 0
+own_nodes make.NoParameters = 0
+own_nodes make.VoidParameters = 0
+own_nodes make.SomeParameters = 0
+own_nodes make.Parameter = 0
+own_nodes make.ArrayParameter = 0
+own_nodes make.EndParameters = 0
+own_nodes make.NextParameter = 0
+own_nodes make.EndUnits = 0
+own_nodes make.NextUnit = 0
+own_nodes make.Source = 0
+
+abbrev pub is_node : Production → Bool
+is_node production = nat_eq (own_nodes production) 1
+
+-- how many of the pieces are parts, and no tokens
+unfoldable pub parts_among : List Piece → ℕ
+parts_among [] = 0
+parts_among (token _ ∷ pieces) = parts_among pieces
+parts_among (part _ ∷ pieces) = parts_among pieces + 1

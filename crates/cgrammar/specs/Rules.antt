@@ -140,3 +140,8 @@ any_accepts (terminal ∷ terminals) kind = accepts terminal kind || any_accepts
 unfoldable pub choose : List Rule → Kind → Option Rule
 choose [] kind = None
 choose (rule ∷ others) kind = if any_accepts rule.on kind then Some rule else choose others kind
+
+-- the same behind references
+abbrev pub chosen : Option (Bor (List Terminal) × Move × Bor (List Symbol)) → Option Rule
+chosen None = None
+chosen (Some entry) = Some (rule_at entry)

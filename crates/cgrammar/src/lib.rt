@@ -11,5 +11,5 @@ mod terminal;
 pub use kind::Kind;
 pub use part::{Move, Part, Rule, Symbol};
 pub use production::{Level, Production, Word, Words};
-pub use table::{EXPRESSION_STARTS, TYPE_STARTS, rules};
+pub use table::{EXPRESSION_STARTS, TYPE_STARTS, rule, rules};
 pub use terminal::Terminal;

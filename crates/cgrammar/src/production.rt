@@ -151,3 +151,351 @@ pub enum Production {
     NextUnit,
     Source,
 }
+
+impl Production {
+    ghost use Rattle.std.specs.Prelude.{◌≡◌, length};
+    ghost use Rattle.cgrammar.specs.Grammar.{template, own_nodes, parts_among, is_node};
+
+    /// How many parts stand on its right side, tokens among them.
+    #[tactic(auto, unfolding(crate::specs::Grammar::template))]
+    pub fn parts(self) -> usize
+        ensures { result ≡ length (template self) }
+    {
+        match self {
+            Production::NoArguments
+            | Production::EndArguments
+            | Production::NoExpression
+            | Production::NoQualifiers
+            | Production::NoPointers
+            | Production::NoLengths
+            | Production::EndDeclarators
+            | Production::EndMembers
+            | Production::NoLocation
+            | Production::NoInitial
+            | Production::EndInits
+            | Production::TrailingComma
+            | Production::EndInitDeclarators
+            | Production::NoElse
+            | Production::EndItems
+            | Production::NoParameters
+            | Production::EndParameters
+            | Production::EndUnits => 0,
+            Production::Identifier
+            | Production::Name
+            | Production::Number
+            | Production::Character
+            | Production::SomeExpression
+            | Production::VoidBase
+            | Production::StandardBase
+            | Production::IntegerBase
+            | Production::FirstWord(_)
+            | Production::InitialExpression
+            | Production::ForObject
+            | Production::RegionName
+            | Production::RegisterUint32
+            | Production::PrototypeEnd
+            | Production::VoidParameters => 1,
+            Production::PostIncrement
+            | Production::PostDecrement
+            | Production::PreIncrement
+            | Production::PreDecrement
+            | Production::Prefix
+            | Production::SizeofExpression
+            | Production::SomeArguments
+            | Production::TypeName
+            | Production::Specified
+            | Production::Based
+            | Production::Qualified
+            | Production::StructBase
+            | Production::NextWord(_, _)
+            | Production::Star
+            | Production::NextPointer
+            | Production::NextMember
+            | Production::Initial
+            | Production::CommaInits
+            | Production::NextInit
+            | Production::ExpressionStatement
+            | Production::Else
+            | Production::ForExpression
+            | Production::Break
+            | Production::Continue
+            | Production::NextObject
+            | Production::NextStatement
+            | Production::UnsignedInt
+            | Production::SomeParameters
+            | Production::NextUnit
+            | Production::Source => 2,
+            Production::Parenthesised
+            | Production::Member
+            | Production::Arrow
+            | Production::Binary(_)
+            | Production::Assign
+            | Production::AssignWith(_)
+            | Production::Comma
+            | Production::NextArgument
+            | Production::Declarator
+            | Production::NextDeclarator
+            | Production::InitDeclarator
+            | Production::NextInitDeclarator
+            | Production::Block
+            | Production::Return
+            | Production::FunctionBody
+            | Production::NextParameter
+            | Production::QualifiedPointer => 3,
+            Production::Index
+            | Production::CallFunction
+            | Production::Call
+            | Production::SizeofType
+            | Production::Cast
+            | Production::Length
+            | Production::StructMember
+            | Production::Braced
+            | Production::LocalObject
+            | Production::External
+            | Production::FunctionRest
+            | Production::Parameter => 4,
+            Production::Conditional
+            | Production::While
+            | Production::RegisterUnit
+            | Production::ObjectRest
+            | Production::ArrayParameter => 5,
+            Production::If => 6,
+            Production::Do
+            | Production::Region
+            | Production::StructUnit => 7,
+            Production::For => 8,
+            Production::Location => 9,
+        }
+    }
+
+    /// How many of them are no tokens.
+    #[tactic(auto, unfolding(crate::specs::Grammar::template, crate::specs::Grammar::parts_among))]
+    pub fn children(self) -> usize
+        ensures { result ≡ parts_among (template self) }
+    {
+        match self {
+            Production::Identifier
+            | Production::Number
+            | Production::Character
+            | Production::NoArguments
+            | Production::EndArguments
+            | Production::NoExpression
+            | Production::NoQualifiers
+            | Production::VoidBase
+            | Production::StandardBase
+            | Production::FirstWord(_)
+            | Production::NoPointers
+            | Production::NoLengths
+            | Production::EndDeclarators
+            | Production::EndMembers
+            | Production::NoLocation
+            | Production::NoInitial
+            | Production::EndInits
+            | Production::TrailingComma
+            | Production::EndInitDeclarators
+            | Production::NoElse
+            | Production::Break
+            | Production::Continue
+            | Production::RegionName
+            | Production::EndItems
+            | Production::UnsignedInt
+            | Production::RegisterUint32
+            | Production::PrototypeEnd
+            | Production::NoParameters
+            | Production::VoidParameters
+            | Production::EndParameters
+            | Production::EndUnits => 0,
+            Production::Name
+            | Production::Parenthesised
+            | Production::PostIncrement
+            | Production::PostDecrement
+            | Production::PreIncrement
+            | Production::PreDecrement
+            | Production::Prefix
+            | Production::SizeofExpression
+            | Production::SizeofType
+            | Production::SomeExpression
+            | Production::Specified
+            | Production::Qualified
+            | Production::StructBase
+            | Production::IntegerBase
+            | Production::NextWord(_, _)
+            | Production::Star
+            | Production::NextPointer
+            | Production::Location
+            | Production::Initial
+            | Production::InitialExpression
+            | Production::CommaInits
+            | Production::Block
+            | Production::ExpressionStatement
+            | Production::Else
+            | Production::ForObject
+            | Production::ForExpression
+            | Production::Return
+            | Production::RegisterUnit
+            | Production::FunctionBody
+            | Production::Source => 1,
+            Production::Index
+            | Production::CallFunction
+            | Production::Call
+            | Production::Member
+            | Production::Arrow
+            | Production::Cast
+            | Production::Binary(_)
+            | Production::Assign
+            | Production::AssignWith(_)
+            | Production::Comma
+            | Production::SomeArguments
+            | Production::NextArgument
+            | Production::TypeName
+            | Production::Based
+            | Production::QualifiedPointer
+            | Production::Length
+            | Production::NextDeclarator
+            | Production::NextMember
+            | Production::Braced
+            | Production::NextInit
+            | Production::NextInitDeclarator
+            | Production::While
+            | Production::Do
+            | Production::Region
+            | Production::NextObject
+            | Production::NextStatement
+            | Production::FunctionRest
+            | Production::SomeParameters
+            | Production::NextParameter
+            | Production::NextUnit => 2,
+            Production::Conditional
+            | Production::Declarator
+            | Production::StructMember
+            | Production::InitDeclarator
+            | Production::LocalObject
+            | Production::If
+            | Production::StructUnit
+            | Production::ArrayParameter => 3,
+            Production::For
+            | Production::External
+            | Production::ObjectRest
+            | Production::Parameter => 4,
+        }
+    }
+
+    /// How many nodes of the tree it makes: one or none.
+    #[tactic(auto, unfolding(crate::specs::Grammar::own_nodes))]
+    fn own_nodes(self) -> usize
+        ensures { result ≡ own_nodes self }
+    {
+        match self {
+            Production::Name
+            | Production::Number
+            | Production::Character
+            | Production::Index
+            | Production::CallFunction
+            | Production::Call
+            | Production::Member
+            | Production::Arrow
+            | Production::PostIncrement
+            | Production::PostDecrement
+            | Production::PreIncrement
+            | Production::PreDecrement
+            | Production::Prefix
+            | Production::SizeofExpression
+            | Production::SizeofType
+            | Production::Cast
+            | Production::Binary(_)
+            | Production::Conditional
+            | Production::Assign
+            | Production::AssignWith(_)
+            | Production::Comma
+            | Production::Braced
+            | Production::LocalObject
+            | Production::Block
+            | Production::ExpressionStatement
+            | Production::If
+            | Production::While
+            | Production::Do
+            | Production::For
+            | Production::Break
+            | Production::Continue
+            | Production::Return
+            | Production::Region
+            | Production::StructUnit
+            | Production::RegisterUnit
+            | Production::External => 1,
+            Production::Identifier
+            | Production::Parenthesised
+            | Production::NoArguments
+            | Production::SomeArguments
+            | Production::EndArguments
+            | Production::NextArgument
+            | Production::NoExpression
+            | Production::SomeExpression
+            | Production::TypeName
+            | Production::Specified
+            | Production::Based
+            | Production::NoQualifiers
+            | Production::Qualified
+            | Production::VoidBase
+            | Production::StructBase
+            | Production::StandardBase
+            | Production::IntegerBase
+            | Production::FirstWord(_)
+            | Production::NextWord(_, _)
+            | Production::NoPointers
+            | Production::Star
+            | Production::QualifiedPointer
+            | Production::NextPointer
+            | Production::NoLengths
+            | Production::Length
+            | Production::Declarator
+            | Production::EndDeclarators
+            | Production::NextDeclarator
+            | Production::StructMember
+            | Production::EndMembers
+            | Production::NextMember
+            | Production::NoLocation
+            | Production::Location
+            | Production::NoInitial
+            | Production::Initial
+            | Production::InitialExpression
+            | Production::EndInits
+            | Production::CommaInits
+            | Production::TrailingComma
+            | Production::NextInit
+            | Production::InitDeclarator
+            | Production::EndInitDeclarators
+            | Production::NextInitDeclarator
+            | Production::NoElse
+            | Production::Else
+            | Production::ForObject
+            | Production::ForExpression
+            | Production::RegionName
+            | Production::EndItems
+            | Production::NextObject
+            | Production::NextStatement
+            | Production::UnsignedInt
+            | Production::RegisterUint32
+            | Production::ObjectRest
+            | Production::FunctionRest
+            | Production::PrototypeEnd
+            | Production::FunctionBody
+            | Production::NoParameters
+            | Production::VoidParameters
+            | Production::SomeParameters
+            | Production::Parameter
+            | Production::ArrayParameter
+            | Production::EndParameters
+            | Production::NextParameter
+            | Production::EndUnits
+            | Production::NextUnit
+            | Production::Source => 0,
+        }
+    }
+
+    /// Whether it makes a node of the tree.
+    pub fn is_node(self) -> bool
+        ensures { result ≡ is_node self }
+    {
+        self.own_nodes() == 1
+    }
+}

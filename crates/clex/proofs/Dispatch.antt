@@ -65,6 +65,7 @@ piece_again (Some (token.Character c)) bytes left is = ap (λ (t : List ℕ). pi
 piece_again (Some (token.Literal text)) bytes left is = ap (λ (t : List ℕ). piece_at (t ++ left)) is.0.0 ∙ literal_again text left is.0.1
 piece_again (Some (token.Keyword k)) bytes left is = keyword_again bytes left k is.0 is.1
 piece_again (Some (token.Punctuator p)) bytes left is = punctuator_again bytes left p is.0 is.1
+piece_again (Some (token.Standard _)) bytes left is = absurd is.0
 piece_again (Some token.End) bytes left is = absurd is.0
 
 -- ---- what is read stands there

@@ -67,6 +67,7 @@ word_other (token.Literal text) bytes left is longer rest all whole lt =
 word_other (token.Punctuator p) bytes left is longer rest all whole lt =
     let first = operator_first bytes p is.0 in
     clash_word first.0 first.1 left longer rest first.3.no_word (whole ∙ ap (λ (t : List ℕ). t ++ left) first.2) (omega arith) all
+word_other (token.Standard _) bytes left is longer rest all whole lt = is.0
 word_other token.End bytes left is longer rest all whole lt = is.0
 
 run_some : (first : ℕ) (bytes : List ℕ) → IsRun first bytes → 0 < length bytes
@@ -99,6 +100,7 @@ operator_other (token.Literal text) bytes left is longer rest p w whole lt =
     let same : first.0 ≡ 34 = cc in
     both_ways _ first.3.no_double_quote (eq-eqb first.0 34 same)
 operator_other (token.Punctuator q) bytes left is longer rest p w whole lt = is.1 longer rest whole lt (inl (p, w))
+operator_other (token.Standard _) bytes left is longer rest p w whole lt = is.0
 operator_other token.End bytes left is longer rest p w whole lt = is.0
 
 pub longest : (kind other : TokenKind) (bytes left longer rest : List ℕ) → IsPiece (Some kind) bytes left → longer ++ rest ≡ bytes ++ left → length bytes < length longer → Writes other longer → ⊥
@@ -113,4 +115,5 @@ longest kind (token.Character c) bytes left longer rest is whole lt w =
 longest kind (token.Literal text) bytes left longer rest is whole lt w =
     read_ends kind (token.Literal text) bytes left longer rest (ap (λ (t : List ℕ). piece_at (t ++ rest)) w.0 ∙ literal_again text rest w.1) (piece_again (Some kind) bytes left is) whole lt
 longest kind (token.Punctuator p) bytes left longer rest is whole lt w = operator_other kind bytes left is longer rest p w whole lt
+longest kind (token.Standard _) bytes left longer rest is whole lt w = w
 longest kind token.End bytes left longer rest is whole lt w = w

@@ -89,6 +89,7 @@ begins_none b is apart (token.Character c) others w = no_character b c.value oth
 begins_none b is apart (token.Literal text) others w = let quote : b ≡ 34 = cc in both_ways _ is.no_double_quote (eq-eqb b 34 quote)
 begins_none b is apart (token.Keyword k) others w = no_run b others (b ∷ others) is.no_word refl (keyword_is_name (b ∷ others) k w).run.each
 begins_none b is apart (token.Punctuator p) others w = apart others p w
+begins_none b is apart (token.Standard _) others w = w
 begins_none b is apart token.End others w = w
 
 -- no punctuator begins with a backslash

@@ -45,7 +45,7 @@ pub data IsCharacter (bytes : List ℕ) (value : ℕ) : Type 0 where
   hexadecimal : (high low : ℕ) → bytes ≡ 39 ∷ 92 ∷ 120 ∷ high ∷ low ∷ 39 ∷ [] → digit_value high < 16 → digit_value low < 16
       → value ≡ 16 * digit_value high + digit_value low → IsCharacter bytes value
 
--- the bytes are how the token is written
+-- The bytes are how the token is written. A type name of `<stdint.h>` is read as an identifier here.
 abbrev pub Writes : TokenKind → List ℕ → Type 0
 Writes (token.Identifier name) bytes = (bytes ≡ name) × IsIdentifier name
 Writes (token.Number n) bytes = (bytes ≡ n.spelling) × IsNumber n.spelling n.value n.is_unsigned
@@ -53,6 +53,7 @@ Writes (token.Character c) bytes = (bytes ≡ c.spelling) × IsCharacter c.spell
 Writes (token.Literal text) bytes = (bytes ≡ 34 ∷ text ++ 34 ∷ []) × IsTrue (list_all is_literal_byte text)
 Writes (token.Keyword k) bytes = keyword_of bytes ≡ Some k
 Writes (token.Punctuator p) bytes = punctuator_of bytes ≡ Some p
+Writes (token.Standard _) bytes = ⊥
 Writes token.End bytes = ⊥
 
 -- `//` or `/*`
@@ -76,4 +77,5 @@ IsLongest (token.Character _) bytes left = Unit {0}
 IsLongest (token.Literal _) bytes left = Unit {0}
 IsLongest (token.Keyword _) bytes left = StopsAt is_word_byte left
 IsLongest (token.Punctuator _) bytes left = IsLongestOperator bytes left
+IsLongest (token.Standard _) bytes left = ⊥
 IsLongest token.End bytes left = ⊥

@@ -34,6 +34,7 @@ fn show(shown: &mut String, token: &Token) -> Result<(), AllocError> {
         }
         TokenKind::Keyword(keyword) => write!(shown, "{keyword:?}")?,
         TokenKind::Punctuator(punctuator) => write!(shown, "{punctuator:?}")?,
+        TokenKind::Standard(integer) => write!(shown, "{integer:?}")?,
         TokenKind::End => shown.push_str("end")?,
     }
     Ok(())

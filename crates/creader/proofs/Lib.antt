@@ -1,1 +1,5 @@
 mod Complete
+mod Fault
+mod Both
+mod Reading
+mod Sound

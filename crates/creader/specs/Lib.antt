@@ -1,1 +1,4 @@
+pub mod Entries
 pub mod Machine
+pub mod Reader
+pub mod Source

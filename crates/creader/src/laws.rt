@@ -1,7 +1,9 @@
-ghost use Rattle.std.specs.Prelude.{◌≡◌, List, [], ◌∷◌};
+ghost use Rattle.std.specs.Prelude.{◌≡◌, ◌-◌, ◌<◌, ◌⊎◌, List, [], ◌∷◌, length, None};
 ghost use Rattle.csyn.specs.declared.token.Token.{Token};
-ghost use Rattle.cgrammar.specs.Text.{Written, IsText};
-ghost use Rattle.creader.specs.Machine.{at, start, Reaches};
+ghost use Rattle.cgrammar.specs.declared.part.Symbol.{Symbol};
+ghost use Rattle.cgrammar.specs.Text.{Written, IsText, IsFirstFault};
+ghost use Rattle.creader.specs.Machine.{at, start, step, Reaches};
+ghost use Rattle.creader.specs.Source.{EndsOnce};
 
 /// What is read to its end is a source, of which one value is left.
 pub fn accepted_is_text()
@@ -12,4 +14,16 @@ pub fn accepted_is_text()
 /// Each source is read to its end.
 pub fn text_is_accepted()
     ensures { (tokens : List Token) (written : Written) → IsText written tokens → Reaches (start tokens) (at [] (written ∷ []) []) }
+{}
+
+/// Where reading stops, it is at the end of a source, or the next token is the first that can't stand.
+pub fn first_fault()
+    ensures { (tokens rest : List Token) (symbols : List Symbol) (values : List Written) → EndsOnce tokens
+        → Reaches (start tokens) (at symbols values rest) → step symbols values rest ≡ None
+        → ((symbols ≡ []) × (rest ≡ [])) ⊎ (IsFirstFault tokens (length tokens - length rest) × (0 < length rest)) }
+{}
+
+/// A source is the text of one tree only.
+pub fn one_text()
+    ensures { (tokens : List Token) (a b : Written) → IsText a tokens → IsText b tokens → a ≡ b }
 {}

@@ -1,5 +1,9 @@
+pub mod Bare
 pub mod Cause
+pub mod Expressions
 pub mod Keyword
+pub mod Levels
 pub mod Punctuator
 pub mod Span
 pub mod Table
+pub mod Tree

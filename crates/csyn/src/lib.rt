@@ -1,25 +1,43 @@
-//! The tokens of a C source, where they stand, and the numbered rules that a source may break.
+//! The tokens of a C source, where they stand, the numbered rules that a source may break, and the tree of a source.
 #![tactic(auto)]
 
 mod cause;
 mod ctype;
+mod declaration;
+mod expression;
 mod fault;
 mod keyword;
+mod lookup;
+mod mark;
 mod operator;
 mod punctuator;
 mod span;
+mod statement;
 mod text;
 mod token;
+mod tree;
+mod unit;
 
 pub use cause::Cause;
+pub use ctype::{
+    Base, CType, IntegerWords, Length, Pointer, Pointers, Sign, StandardInteger, TypeName,
+};
+pub use declaration::{
+    Declarator, Declarators, Init, InitDeclarator, InitDeclarators, Inits, LocalObject, Member,
+    Members, Object, Parameter, ParameterList, Parameters,
+};
+pub use expression::{Expr, ExprKind, Exprs};
 pub use fault::SourceFault;
-pub use ctype::{Base, CType, IntegerWords, Length, Pointer, Pointers, Sign, StandardInteger, TypeName};
-pub use operator::{BinaryOperator, PostfixOperator, PrefixOperator};
 pub use keyword::{KEYWORDS, Keyword};
+pub use mark::Mark;
+pub use operator::{BinaryOperator, PostfixOperator, PrefixOperator};
 pub use punctuator::{PUNCTUATORS, Punctuator};
 pub use span::Span;
+pub use statement::{ForFirst, Items, Stmt, StmtKind};
 pub use text::Text;
 pub use token::{Character, Number, Token, TokenKind};
+pub use tree::{ExprId, MAX_LEVELS, MAX_TOKENS, Tree};
+pub use unit::{Head, Unit, UnitKind, Units};
 
 #[cfg(test)]
 mod tests;

@@ -1,5 +1,5 @@
 //! The rules by which a source is read, looking one token ahead.
-ghost use Rattle.std.specs.Prelude.{◌≡◌, map};
+ghost use Rattle.std.specs.Prelude.{◌≡◌, ◌<◌, map};
 ghost use Rattle.cgrammar.specs.Rules as specs;
 
 mod expression;
@@ -9,6 +9,7 @@ mod declaration;
 mod statement;
 mod unit;
 
+use crate::kind::Kind;
 use crate::part::{Part, Rule};
 use crate::production::{Level, Words};
 use crate::terminal::Terminal;
@@ -165,4 +166,38 @@ pub fn rules(part: Part) -> &'static [Rule]
         Part::ChainTail(level) => chain_tail_rules(level),
         Part::Words(words) => words_rules(words),
     }
+}
+
+#[tactic(auto, unfolding(crate::specs::Rules::any_accepts))]
+fn any_accepts(terminals: &[Terminal], kind: Kind) -> bool
+    ensures { result ≡ specs.any_accepts terminals.now kind }
+{
+    match terminals {
+        [terminal, others @ ..] => terminal.accepts(kind) || any_accepts(others, kind),
+        [] => false,
+    }
+}
+
+/// The first of the rules that accepts the token.
+#[tactic(auto, unfolding(crate::specs::Rules::choose))]
+fn choose(rules: &'static [Rule], kind: Kind) -> Option<Rule>
+    ensures { specs.chosen result ≡ specs.choose (map specs.rule_at rules.now) kind }
+{
+    match rules {
+        [rule, others @ ..] => {
+            if any_accepts(rule.0, kind) {
+                Some(*rule)
+            } else {
+                choose(others, kind)
+            }
+        }
+        [] => None,
+    }
+}
+
+/// The rule by which a part is read where the next token is of this kind. None: the token can't stand there.
+pub fn rule(part: Part, kind: Kind) -> Option<Rule>
+    ensures { specs.chosen result ≡ specs.choose (specs.rules part) kind }
+{
+    choose(rules(part), kind)
 }

@@ -86,7 +86,7 @@ pub const STARS_TAIL: [Rule; 2] = [
 ];
 
 pub const AFTER_STAR: [Rule; 2] = [
-    (&[Terminal::Qualifier], Move::Take, &[Read(Part::Qualifiers), Reduce(Production::QualifiedPointer), Read(Part::PointersTail)]),
+    (&[Terminal::Qualifier], Move::Take, &[Read(Part::Qualifiers), Reduce(Production::Qualified), Reduce(Production::QualifiedPointer), Read(Part::PointersTail)]),
     (&[Terminal::Any], Move::Stay, &[Reduce(Production::Star), Read(Part::StarsTail)]),
 ];
 
@@ -96,7 +96,7 @@ pub const POINTERS_TAIL: [Rule; 2] = [
 ];
 
 pub const AFTER_NEXT_STAR: [Rule; 2] = [
-    (&[Terminal::Qualifier], Move::Take, &[Read(Part::Qualifiers), Reduce(Production::QualifiedPointer), Read(Part::PointersTail)]),
+    (&[Terminal::Qualifier], Move::Take, &[Read(Part::Qualifiers), Reduce(Production::Qualified), Reduce(Production::QualifiedPointer), Read(Part::PointersTail)]),
     (&[Terminal::Any], Move::Stay, &[Reduce(Production::NextPointer), Read(Part::PointersTail)]),
 ];
 

@@ -62,7 +62,7 @@ pub const PARAMETER_TAIL: [Rule; 2] = [
 ];
 
 pub const PARAMETER_AFTER_STAR: [Rule; 2] = [
-    (&[Terminal::Qualifier], Move::Take, &[Read(Part::Qualifiers), Reduce(Production::QualifiedPointer), Read(Part::PointersTail), Take(Terminal::Name), Reduce(Production::Identifier), Read(Part::Lengths), Reduce(Production::Parameter)]),
+    (&[Terminal::Qualifier], Move::Take, &[Read(Part::Qualifiers), Reduce(Production::Qualified), Reduce(Production::QualifiedPointer), Read(Part::PointersTail), Take(Terminal::Name), Reduce(Production::Identifier), Read(Part::Lengths), Reduce(Production::Parameter)]),
     (&[Terminal::Any], Move::Stay, &[Reduce(Production::Star), Read(Part::ParameterTail)]),
 ];
 

@@ -1,0 +1,11 @@
+-- The two laws of reading, as the others cite them.
+use Rattle.creader.proofs.Fault.First.{Sound, Whole}
+use Rattle.creader.proofs.Sound.Kept as kept
+
+-- what is read to its end is a source
+pub sound : Sound
+sound = kept.sound
+
+-- each source is read to its end
+pub whole : Whole
+whole = ?

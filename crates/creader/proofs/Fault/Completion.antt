@@ -1,0 +1,103 @@
+-- Symbols that can be completed are done with their completion, and what each rule keeps.
+use Rattle.std.proofs.Common.{◌≡◌, Bool, true, false, ◌&&◌, ◌||◌, not, List, [], ◌∷◌, ◌++◌, Some, refl, subst, ap, append_assoc}
+use Rattle.std.proofs.lemmas.List.{map-append}
+use Rattle.csyn.specs.declared.token.Token.{Token}
+use Rattle.cgrammar.specs.declared.kind.Kind.{Kind}
+use Rattle.cgrammar.specs.declared.kind.Kind.TheVariants as kind
+use Rattle.cgrammar.specs.declared.part.Part.{Part}
+use Rattle.cgrammar.specs.declared.part.Move.TheVariants as move
+use Rattle.cgrammar.specs.declared.part.Symbol.{Symbol}
+use Rattle.cgrammar.specs.declared.part.Symbol.TheVariants as symbol
+use Rattle.cgrammar.specs.Kind.{kind_of}
+use Rattle.cgrammar.specs.Rules.{Rule, rules, any_accepts, choose}
+use Rattle.creader.proofs.Complete.Reading.{allows}
+use Rattle.creader.proofs.Fault.Kinds.{and_left, and_right, every, every_kind_at}
+use Rattle.creader.proofs.Fault.Samples.{sample, samples, kind-sample}
+use Rattle.creader.proofs.Fault.Done.{Done, done_nothing, done_reduce, done_take, done_both}
+use Rattle.creader.proofs.Fault.Goes.{goes_on_tokens}
+use Rattle.creader.proofs.Fault.Table.{short, ends_before, pick}
+use Rattle.creader.proofs.Fault.Checks.{completion, first, completes, spares_end, pick_accepted, short_test, short_is_read, rules_test, rules_complete, leaves_token, end_is_left}
+
+pub and_both : (a b : Bool) → a ≡ true → b ≡ true → (a && b) ≡ true
+and_both true b h k = k
+and_both false b h k = h
+
+implied : (a b : Bool) → (not a || b) ≡ true → a ≡ true → b ≡ true
+implied true b h k = h
+implied false b h k = cc
+
+short_done : (p : Part) (token : Token) (tokens : List Token) → allows (ends_before p) (kind_of token) ≡ true
+    → Done (symbol.Read p ∷ []) (samples (short p)) (token ∷ tokens)
+short_done p token tokens h = goes_on_tokens 40 (symbol.Read p ∷ []) (short p) token tokens
+    (implied _ _ (every_kind_at (short_test p) (short_is_read p) (kind_of token)) h)
+
+-- before what follows a completion
+before_completion : (p : Part) (kinds : List Kind) (token : Token) (tokens : List Token)
+    → allows (ends_before p) (first kinds (kind_of token)) ≡ true → Done (symbol.Read p ∷ []) (samples (short p)) (samples kinds ++ token ∷ tokens)
+before_completion p [] token tokens h = short_done p token tokens h
+before_completion p (kind ∷ kinds) token tokens h = short_done p (sample kind) (samples kinds ++ token ∷ tokens) (rw kind-sample h)
+
+pub completed : (symbols : List Symbol) (token : Token) (tokens : List Token) → completes symbols (kind_of token) ≡ true
+    → Done symbols (samples (completion symbols)) (token ∷ tokens)
+unfolding completes completion
+completed [] token tokens h = done_nothing (token ∷ tokens)
+completed (symbol.Reduce p ∷ symbols) token tokens h =
+    done_reduce p symbols (samples (completion symbols)) (token ∷ tokens) (completed symbols token tokens h)
+completed (symbol.Take t ∷ symbols) token tokens h =
+    done_take t symbols (sample (pick t)) (samples (completion symbols)) (token ∷ tokens) (rw kind-sample (pick_accepted t))
+    (completed symbols token tokens h)
+completed (symbol.Read p ∷ symbols) token tokens h =
+    rw map-append (done_both (symbol.Read p ∷ []) symbols (samples (short p)) (samples (completion symbols)) (token ∷ tokens)
+    (before_completion p (completion symbols) token tokens (and_left _ _ h))
+    (completed symbols token tokens (and_right _ (completes symbols (kind_of token)) h)))
+
+first-append : (one other : List Kind) (following : Kind) → first (one ++ other) following ≡ first one (first other following)
+first-append [] other following = refl
+first-append (kind ∷ kinds) other following = refl
+
+completion-append : (one other : List Symbol) → completion (one ++ other) ≡ completion one ++ completion other
+unfolding completion
+completion-append [] other = refl
+completion-append (symbol.Take t ∷ one) other = ap (λ x. pick t ∷ x) (completion-append one other)
+completion-append (symbol.Reduce p ∷ one) other = completion-append one other
+completion-append (symbol.Read p ∷ one) other = rw (append_assoc, completion-append one other)
+
+pub completes-append : (one other : List Symbol) (following : Kind) → completes one (first (completion other) following) ≡ true
+    → completes other following ≡ true → completes (one ++ other) following ≡ true
+unfolding completes completion
+completes-append [] other following h k = k
+completes-append (symbol.Take t ∷ one) other following h k = completes-append one other following h k
+completes-append (symbol.Reduce p ∷ one) other following h k = completes-append one other following h k
+completes-append (symbol.Read p ∷ one) other following h k =
+    and_both _ _ (rw (completion-append one other, first-append) (and_left _ _ h)) (completes-append one other following (and_right _ _ h) k)
+
+pub spares_end-append : (one other : List Symbol) → spares_end one ≡ true → spares_end other ≡ true → spares_end (one ++ other) ≡ true
+unfolding spares_end
+spares_end-append [] other h k = k
+spares_end-append (symbol.Take t ∷ one) other h k =
+    and_both _ _ (and_left _ _ h) (spares_end-append one other (and_right _ _ h) k)
+spares_end-append (symbol.Reduce p ∷ one) other h k = spares_end-append one other h k
+spares_end-append (symbol.Read p ∷ one) other h k = spares_end-append one other h k
+
+-- what holds of every rule holds of the chosen one
+every_chosen : (q : Rule → Bool) (rules : List Rule) (kind : Kind) (rule : Rule) → every q rules ≡ true → choose rules kind ≡ Some rule → q rule ≡ true
+unfolding choose
+every_chosen q [] kind rule h e = cc
+every_chosen q (r ∷ rs) kind rule h e = go (any_accepts r.on kind) refl (λ later. every_chosen q rs kind rule (and_right (q r) _ h) later)
+  where
+    go : (answer : Bool) → any_accepts r.on kind ≡ answer → (choose rs kind ≡ Some rule → q rule ≡ true) → q rule ≡ true
+    go true is others = let found : Some r ≡ Some rule = rw (is, choose) at e in let same : r ≡ rule = cc in
+        subst (λ x. q x ≡ true) same (and_left _ _ h)
+    go false is others = others (rw (is, choose) at e)
+
+pub rule_completes : (p : Part) (kind following : Kind) (rule : Rule) → choose (rules p) kind ≡ Some rule
+    → allows (ends_before p) following ≡ true → completes rule.symbols following ≡ true
+rule_completes p kind following rule chosen h =
+    every_chosen (λ r. completes r.symbols following) (rules p) kind rule
+    (implied _ _ (every_kind_at (rules_test p) (rules_complete p) following) h) chosen
+
+pub rule_spares_end : (p : Part) (kind : Kind) (rule : Rule) → choose (rules p) kind ≡ Some rule → spares_end rule.symbols ≡ true
+rule_spares_end p kind rule chosen = every_chosen (λ r. spares_end r.symbols) (rules p) kind rule (and_right _ _ (end_is_left p)) chosen
+
+pub end_stays : (p : Part) (rule : Rule) → choose (rules p) kind.End ≡ Some rule → rule.move ≡ move.Take → ⊥
+end_stays p rule chosen takes = let h = rw (chosen, takes) at (and_left (leaves_token (choose (rules p) kind.End)) _ (end_is_left p)) in cc
