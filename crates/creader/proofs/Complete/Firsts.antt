@@ -61,6 +61,7 @@ firsts class.«type» = type_starts
 firsts class.base = word keyword.Void ∷ word keyword.Struct ∷ terminal.Standard ∷ integer_words
 firsts class.integer = integer_words
 firsts class.qualifiers = terminal.Qualifier ∷ []
+firsts class.some_qualifiers = terminal.Qualifier ∷ []
 firsts class.pointers = sign punctuator.Star ∷ []
 firsts class.lengths = sign punctuator.LeftBracket ∷ []
 firsts class.declarator = sign punctuator.Star ∷ terminal.Name ∷ []
@@ -202,6 +203,8 @@ wider-firsts class.stars class.pointers h = refl
 wider-firsts class.stars _ h = absurd (no h)
 wider-firsts class.qualified class.pointers h = refl
 wider-firsts class.qualified _ h = absurd (no h)
+wider-firsts class.some_qualifiers class.qualifiers h = refl
+wider-firsts class.some_qualifiers _ h = absurd (no h)
 wider-firsts _ _ h = absurd (no h)
 
 wider-nullable : (a c : Class) → is_wider a c ≡ true → nullable a ≡ true → nullable c ≡ true
@@ -210,6 +213,7 @@ wider-nullable (class.level _) _ h e = absurd (no e)
 wider-nullable class.callee _ h e = absurd (no e)
 wider-nullable (class.words _) _ h e = absurd (no e)
 wider-nullable class.qualified _ h e = absurd (no e)
+wider-nullable class.some_qualifiers _ h e = absurd (no e)
 wider-nullable class.stars class.pointers h e = refl
 wider-nullable class.stars _ h e = absurd (no h)
 wider-nullable _ _ h e = absurd (no h)

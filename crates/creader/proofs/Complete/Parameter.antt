@@ -56,7 +56,7 @@ one_length = symbol.Read part.Expression ∷ symbol.Take (sign punctuator.RightB
 
 -- what stands behind a star, from a qualifier on
 abbrev qualified : List Symbol
-qualified = symbol.Read part.Qualifiers ∷ symbol.Reduce make.QualifiedPointer ∷ symbol.Read part.PointersTail ∷ []
+qualified = symbol.Read part.Qualifiers ∷ symbol.Reduce make.Qualified ∷ symbol.Reduce make.QualifiedPointer ∷ symbol.Read part.PointersTail ∷ []
 
 -- the rules by which a parameter is read
 parameter-first : Chosen part.Parameter (λ _. true) move.Stay (symbol.Read part.Type ∷ symbol.Reduce make.NoPointers ∷ symbol.Read part.ParameterTail ∷ [])

@@ -1,5 +1,5 @@
 -- How pointers are read: those without qualifiers, and those with some.
-use Rattle.std.specs.Prelude.{◌≡◌, Bool, true, false, not, ◌||◌, ◌⊎◌, List, [], ◌∷◌, ◌++◌}
+use Rattle.std.specs.Prelude.{◌≡◌, Bool, true, false, not, ◌||◌, ◌&&◌, ◌⊎◌, List, [], ◌∷◌, ◌++◌}
 use Rattle.std.proofs.Common.{refl, inl, inr, append_assoc}
 use Rattle.csyn.specs.declared.token.Token.{Token}
 use Rattle.csyn.specs.declared.punctuator.Punctuator.TheVariants as punctuator
@@ -24,9 +24,9 @@ use Rattle.creader.proofs.Complete.KnownReads.{known-reads}
 use Rattle.creader.proofs.Complete.Kinds.{kinds, each, every_kind, at-kind}
 use Rattle.creader.proofs.Complete.Steps.{join, push}
 use Rattle.creader.proofs.Complete.Productions.{productions, kept, makers, In, in-makers}
-use Rattle.creader.proofs.Complete.Firsts.{sign, Begins, begins-as, implied, no, may_begin, forest-begins}
+use Rattle.creader.proofs.Complete.Firsts.{sign, Begins, begins-as, implied, no, may_begin, forest-begins, written-begins, firsts, nullable}
 use Rattle.creader.proofs.Complete.Sequence.{may_follow, reads-before, reads-from}
-use Rattle.creader.proofs.Complete.Rule.{rule_check, rule_shape, Chosen, part-take, part-stay, stay-at, made-step}
+use Rattle.creader.proofs.Complete.Rule.{rule_check, rule_shape, Chosen, part-take, part-stay, stay-at, back-take, made-step}
 use Rattle.creader.proofs.Complete.Deep.{Deep, Deeps, deep-known, Below, deep-below}
 
 -- some tokens
@@ -153,7 +153,8 @@ stars-read tail after s (node p f) st m symbols values tokens b = absurd (no (st
 -- the parts by which a star and qualifiers behind it are read
 record Marked (tail after : Part) : Type 0 where
   starred : Chosen tail is_star move.Take (symbol.Read after ∷ [])
-  marked : Chosen after is_qualifier move.Take (symbol.Read part.Qualifiers ∷ symbol.Reduce make.QualifiedPointer ∷ symbol.Read part.PointersTail ∷ [])
+  marked : Chosen after is_qualifier move.Take
+      (symbol.Read part.Qualifiers ∷ symbol.Reduce make.Qualified ∷ symbol.Reduce make.QualifiedPointer ∷ symbol.Read part.PointersTail ∷ [])
 
 -- behind stars, and behind pointers of which some are qualified
 stars-marked : Marked part.StarsTail part.AfterStar
@@ -175,8 +176,12 @@ next-star : Chosen part.AfterNextStar not_qualifier move.Stay (symbol.Reduce mak
 unfolding rule_check rule_shape
 next-star = record { index = 1; checked = refl; found = refl }
 
--- qualifiers stand before what is none
-qualifiers-may : (d : Written) (kind : Kind) → not_qualifier kind ≡ true → may_follow class.qualifiers d kind ≡ true
+qualifiers-first : Chosen part.Qualifiers is_qualifier move.Take (symbol.Read part.Qualifiers ∷ symbol.Reduce make.Qualified ∷ [])
+unfolding rule_check rule_shape
+qualifiers-first = record { index = 0; checked = refl; found = refl }
+
+-- qualifiers stand before what is none, and begin with one
+qualifiers-may : (d : Written) (kind : Kind) → not_qualifier kind ≡ true → may_follow class.some_qualifiers d kind ≡ true
 unfolding is_statement follow allows any_accepts
 qualifiers-may d kind h = go (is_qualifier kind) h
   where
@@ -184,21 +189,46 @@ qualifiers-may d kind h = go (is_qualifier kind) h
     go true h = h
     go false h = h
 
+qualifiers-begin : (d : Written) → IsProper d → Stands (class.part class.some_qualifiers) d → (tokens : List Token) → Begins not_qualifier tokens
+    → Begins is_qualifier (spell d ++ tokens)
+unfolding any_accepts firsts nullable
+qualifiers-begin d m s tokens b =
+    begins-as (λ kind. any_accepts (firsts class.some_qualifiers) kind || (nullable class.some_qualifiers && not_qualifier kind)) is_qualifier (spell d ++ tokens)
+    (λ kind h. go (is_qualifier kind) h) (written-begins d m class.some_qualifiers s not_qualifier tokens b)
+  where
+    go : (b : Bool) → ((b || false) || false) ≡ true → b ≡ true
+    go true h = refl
+    go false h = h
+
+-- qualifiers behind a star, as if they were read by themselves
+qualifier-join : (after : Part) → Chosen after is_qualifier move.Take
+    (symbol.Read part.Qualifiers ∷ symbol.Reduce make.Qualified ∷ symbol.Reduce make.QualifiedPointer ∷ symbol.Read part.PointersTail ∷ [])
+    → (symbols : List Symbol) (values others : List Written) (tokens left : List Token) → Begins is_qualifier tokens
+    → Reaches (at (symbol.Read part.Qualifiers ∷ symbol.Reduce make.QualifiedPointer ∷ symbol.Read part.PointersTail ∷ symbols) values tokens)
+    (at (symbol.Reduce make.QualifiedPointer ∷ symbol.Read part.PointersTail ∷ symbols) others left)
+    → Reaches (at (symbol.Read after ∷ symbols) values tokens) (at (symbol.Reduce make.QualifiedPointer ∷ symbol.Read part.PointersTail ∷ symbols) others left)
+qualifier-join after c symbols values others [] left b reached = absurd b
+qualifier-join after c symbols values others (q ∷ tokens) left b reached =
+    let behind = symbol.Reduce make.QualifiedPointer ∷ symbol.Read part.PointersTail ∷ symbols in
+    join (part-take after is_qualifier _ symbols values q tokens c b)
+    (back-take [] behind values others left part.Qualifiers is_qualifier _ q tokens qualifiers-first b reached)
+
 -- a star and qualifiers
-marked-reads : (tail after : Part) → Marked tail after → (c : Written) (x q : Token) (d : Written)
-    → Match (template make.QualifiedPointer) (more c (more (leaf x) (more (leaf q) (more d none)))) → Deep d
+marked-reads : (tail after : Part) → Marked tail after → (c : Written) (x : Token) (d : Written)
+    → Match (template make.QualifiedPointer) (more c (more (leaf x) (more d none))) → Deep d
     → (symbols : List Symbol) (values : List Written) (tokens : List Token) → Begins not_qualifier tokens
-    → Reaches (at (symbol.Read tail ∷ symbols) (c ∷ values) (x ∷ q ∷ spell d ++ tokens))
-    (at (symbol.Read part.PointersTail ∷ symbols) (node make.QualifiedPointer (more c (more (leaf x) (more (leaf q) (more d none)))) ∷ values) tokens)
+    → Reaches (at (symbol.Read tail ∷ symbols) (c ∷ values) (x ∷ spell d ++ tokens))
+    (at (symbol.Read part.PointersTail ∷ symbols) (node make.QualifiedPointer (more c (more (leaf x) (more d none))) ∷ values) tokens)
 unfolding template Match push has_reader reader
-marked-reads tail after s c x q d m deep symbols values tokens b =
-    let left = symbol.Reduce make.QualifiedPointer ∷ symbol.Read part.PointersTail ∷ symbols in
-    let r = known-reads d class.qualifiers (deep-known d deep) m.3.3.3.0 refl in
-    join (part-take tail is_star _ symbols (c ∷ values) x (q ∷ spell d ++ tokens) s.starred m.3.0)
-    (join (part-take after is_qualifier _ symbols (leaf x ∷ c ∷ values) q (spell d ++ tokens) s.marked m.3.3.0)
-    (join (reads-before class.qualifiers d r left (leaf q ∷ leaf x ∷ c ∷ values) tokens
-    (begins-as not_qualifier (may_follow class.qualifiers d) tokens (qualifiers-may d) b))
-    (made-step make.QualifiedPointer (more c (more (leaf x) (more (leaf q) (more d none)))) (symbol.Read part.PointersTail ∷ symbols) values tokens m)))
+marked-reads tail after s c x d m deep symbols values tokens b =
+    let behind = symbol.Reduce make.QualifiedPointer ∷ symbol.Read part.PointersTail ∷ symbols in
+    let r = known-reads d class.some_qualifiers (deep-known d deep) m.3.3.0 refl in
+    let whole = reads-before class.some_qualifiers d r behind (leaf x ∷ c ∷ values) tokens
+    (begins-as not_qualifier (may_follow class.some_qualifiers d) tokens (qualifiers-may d) b) in
+    join (part-take tail is_star _ symbols (c ∷ values) x (spell d ++ tokens) s.starred m.3.0)
+    (join (qualifier-join after s.marked symbols (leaf x ∷ c ∷ values) (d ∷ leaf x ∷ c ∷ values) (spell d ++ tokens) tokens
+    (qualifiers-begin d m.3.3.1 m.3.3.0 tokens b) whole)
+    (made-step make.QualifiedPointer (more c (more (leaf x) (more d none))) (symbol.Read part.PointersTail ∷ symbols) values tokens m))
 
 -- a star behind qualifiers
 next-reads : (c : Written) (x : Token) → Match (template make.NextPointer) (more c (more (leaf x) none))
@@ -218,29 +248,29 @@ Qualified w = (symbols : List Symbol) (values : List Written) (tokens : List Tok
     → Reaches (at (symbol.Reduce make.NoPointers ∷ symbol.Read part.StarsTail ∷ symbols) values (spell w ++ tokens)) (at (symbol.Read part.PointersTail ∷ symbols) (w ∷ values) tokens)
 
 -- pointers of either class, and a star and qualifiers
-qualifiers-read : (c : Written) (x q : Token) (d : Written) → Match (template make.QualifiedPointer) (more c (more (leaf x) (more (leaf q) (more d none))))
-    → (Stands (class.part class.qualified) c → Qualified c) → Deep d → Qualified (node make.QualifiedPointer (more c (more (leaf x) (more (leaf q) (more d none)))))
+qualifiers-read : (c : Written) (x : Token) (d : Written) → Match (template make.QualifiedPointer) (more c (more (leaf x) (more d none)))
+    → (Stands (class.part class.qualified) c → Qualified c) → Deep d → Qualified (node make.QualifiedPointer (more c (more (leaf x) (more d none))))
 unfolding template Match
-qualifiers-read (leaf t) x q d m ih deep symbols values tokens b = absurd m.0
-qualifiers-read (node p g) x q d m ih deep symbols values tokens b = simp append_assoc (go (pointers-ways p m.0))
+qualifiers-read (leaf t) x d m ih deep symbols values tokens b = absurd m.0
+qualifiers-read (node p g) x d m ih deep symbols values tokens b = simp append_assoc (go (pointers-ways p m.0))
   where
     c : Written
     c = node p g
 
-    behind : Begins not_qualifier (x ∷ q ∷ spell d ++ tokens)
+    behind : Begins not_qualifier (x ∷ spell d ++ tokens)
     behind = star-no-qualifier (kind_of x) m.3.0
 
     Goal : Type 0
-    Goal = Reaches (at (symbol.Reduce make.NoPointers ∷ symbol.Read part.StarsTail ∷ symbols) values (spell c ++ (x ∷ q ∷ spell d ++ tokens)))
-        (at (symbol.Read part.PointersTail ∷ symbols) (node make.QualifiedPointer (more c (more (leaf x) (more (leaf q) (more d none)))) ∷ values) tokens)
+    Goal = Reaches (at (symbol.Reduce make.NoPointers ∷ symbol.Read part.StarsTail ∷ symbols) values (spell c ++ (x ∷ spell d ++ tokens)))
+        (at (symbol.Read part.PointersTail ∷ symbols) (node make.QualifiedPointer (more c (more (leaf x) (more d none))) ∷ values) tokens)
 
     go : (under (home p) class.stars ≡ true) ⊎ (under (home p) class.qualified ≡ true) → Goal
     go (inl e) =
-        join (stars-read part.StarsTail part.AfterStar stars-tail c e m.1 symbols values (x ∷ q ∷ spell d ++ tokens) behind)
-        (marked-reads part.StarsTail part.AfterStar stars-marked c x q d m deep symbols values tokens b)
+        join (stars-read part.StarsTail part.AfterStar stars-tail c e m.1 symbols values (x ∷ spell d ++ tokens) behind)
+        (marked-reads part.StarsTail part.AfterStar stars-marked c x d m deep symbols values tokens b)
     go (inr e) =
-        join (ih e symbols values (x ∷ q ∷ spell d ++ tokens) behind)
-        (marked-reads part.PointersTail part.AfterNextStar pointers-marked c x q d m deep symbols values tokens b)
+        join (ih e symbols values (x ∷ spell d ++ tokens) behind)
+        (marked-reads part.PointersTail part.AfterNextStar pointers-marked c x d m deep symbols values tokens b)
 
 -- Pointers of which some are qualified.
 qualified-read : (w : Written) → Stands (class.part class.qualified) w → IsProper w → Below w → Qualified w
@@ -249,12 +279,10 @@ qualified-read (leaf t) st m deep symbols values tokens b = absurd st
 qualified-read (node make.QualifiedPointer none) st m deep symbols values tokens b = absurd m
 qualified-read (node make.QualifiedPointer (more c none)) st m deep symbols values tokens b = absurd m.3
 qualified-read (node make.QualifiedPointer (more c (more x none))) st m deep symbols values tokens b = absurd m.3.3
-qualified-read (node make.QualifiedPointer (more c (more x (more q none)))) st m deep symbols values tokens b = absurd m.3.3.3
-qualified-read (node make.QualifiedPointer (more c (more (leaf x) (more (leaf q) (more d none))))) st m deep symbols values tokens b =
-    qualifiers-read c x q d m (λ st'. qualified-read c st' m.1 (deep-below c deep.0)) deep.1.1.1.0 symbols values tokens b
-qualified-read (node make.QualifiedPointer (more c (more (leaf x) (more (leaf q) (more d (more e f)))))) st m deep symbols values tokens b = absurd m.3.3.3.3
-qualified-read (node make.QualifiedPointer (more c (more (leaf x) (more (node p g) (more d f))))) st m deep symbols values tokens b = absurd m.3.3.0
-qualified-read (node make.QualifiedPointer (more c (more (node p g) (more q (more d f))))) st m deep symbols values tokens b = absurd m.3.0
+qualified-read (node make.QualifiedPointer (more c (more (leaf x) (more d none)))) st m deep symbols values tokens b =
+    qualifiers-read c x d m (λ st'. qualified-read c st' m.1 (deep-below c deep.0)) deep.1.1.0 symbols values tokens b
+qualified-read (node make.QualifiedPointer (more c (more (leaf x) (more d (more e f))))) st m deep symbols values tokens b = absurd m.3.3.3
+qualified-read (node make.QualifiedPointer (more c (more (node p g) (more d f)))) st m deep symbols values tokens b = absurd m.3.0
 qualified-read (node make.NextPointer none) st m deep symbols values tokens b = absurd m
 qualified-read (node make.NextPointer (more c none)) st m deep symbols values tokens b = absurd m.3
 qualified-read (node make.NextPointer (more c (more (leaf x) none))) st m deep symbols values tokens b =

@@ -13,7 +13,7 @@ use Rattle.cgrammar.specs.declared.production.Production.TheVariants as make
 use Rattle.cgrammar.specs.Grammar as class
 use Rattle.cgrammar.specs.Grammar.{Class, Piece, template, home, under, is_wider, class_number, assignment_class, joined}
 use Rattle.cgrammar.specs.Text.{Written, leaf, node, Forest, none, more, IsProper, Match}
-use Rattle.creader.proofs.Complete.Reading.{reader, has_reader, Reads, Complete}
+use Rattle.creader.proofs.Complete.Reading.{reader, follow, is_statement, has_reader, Reads, Complete}
 use Rattle.creader.proofs.Complete.Classes.{under-ways}
 use Rattle.creader.proofs.Complete.Firsts.{no}
 use Rattle.creader.proofs.Complete.Heads.{Heads, Known, known_as, is_expression, is_level}
@@ -42,7 +42,7 @@ known-expression : (p : Production) (f : Forest) → is_expression p ≡ true �
 unfolding Known known_as
 known-expression p f e h = rw e h
 
--- a class under which no other stands
+-- a class that is read alike wherever a tree of it stands
 unfoldable narrow : Class → Bool
 narrow (class.level _) = false
 narrow class.callee = false
@@ -51,22 +51,27 @@ narrow class.stars = false
 narrow class.qualified = false
 narrow _ = true
 
--- nothing else is wanted where such a tree stands
-narrow-wider : (a c : Class) → narrow a ≡ true → is_wider a c ≡ true → ⊥
+qualifiers-alike : (w : Written) → Reads class.some_qualifiers w → Reads class.qualifiers w
+unfolding reader follow is_statement
+qualifiers-alike w r = record { reads = λ symbols values next tokens b. r.reads symbols values next tokens b }
+
+narrow-reads : (a c : Class) (w : Written) → narrow a ≡ true → is_wider a c ≡ true → Reads a w → Reads c w
 unfolding narrow is_wider
-narrow-wider (class.level _) c n h = no n
-narrow-wider class.callee c n h = no n
-narrow-wider (class.words _) c n h = no n
-narrow-wider class.stars c n h = no n
-narrow-wider class.qualified c n h = no n
-narrow-wider _ c n h = no h
+narrow-reads (class.level _) c w n h r = absurd (no n)
+narrow-reads class.callee c w n h r = absurd (no n)
+narrow-reads (class.words _) c w n h r = absurd (no n)
+narrow-reads class.stars c w n h r = absurd (no n)
+narrow-reads class.qualified c w n h r = absurd (no n)
+narrow-reads class.some_qualifiers class.qualifiers w n h r = qualifiers-alike w r
+narrow-reads class.some_qualifiers _ w n h r = absurd (no h)
+narrow-reads _ c w n h r = absurd (no h)
 
 narrow-each : (p : Production) (f : Forest) → narrow (home p) ≡ true → Reads (home p) (node p f) → AsEach p f
 narrow-each p f n r c u has = go (under-ways (home p) c u)
   where
     go : (home p ≡ c) ⊎ (is_wider (home p) c ≡ true) → Reads c (node p f)
     go (inl same) = rw same at r
-    go (inr wider) = absurd (narrow-wider (home p) c n wider)
+    go (inr wider) = narrow-reads (home p) c (node p f) n wider r
 
 -- so it is enough to read it as its own class
 narrow-known : (p : Production) (f : Forest) → is_expression p ≡ false → narrow (home p) ≡ true → Reads (home p) (node p f) → Known (node p f)

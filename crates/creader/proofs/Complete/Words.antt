@@ -34,6 +34,7 @@ none-wider class.callee ws h = no h
 none-wider (class.words _) ws h = no h
 none-wider class.stars ws h = no h
 none-wider class.qualified ws h = no h
+none-wider class.some_qualifiers ws h = no h
 none-wider _ ws h = no h
 
 words-home : (a : Class) (ws : Words) → under a (class.words ws) ≡ true → a ≡ class.words ws
@@ -187,6 +188,7 @@ integer-words (class.level _) h = absurd (no h)
 integer-words class.callee h = absurd (no h)
 integer-words class.stars h = absurd (no h)
 integer-words class.qualified h = absurd (no h)
+integer-words class.some_qualifiers h = absurd (no h)
 integer-words _ h = absurd (no h)
 
 -- what stands as an integer is some words
