@@ -1,5 +1,4 @@
 pub mod Grammar
 pub mod Kind
-pub mod Rules
 pub mod Terminal
 pub mod Text

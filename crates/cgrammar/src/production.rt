@@ -260,9 +260,7 @@ impl Production {
             | Production::ObjectRest
             | Production::ArrayParameter => 5,
             Production::If => 6,
-            Production::Do
-            | Production::Region
-            | Production::StructUnit => 7,
+            Production::Do | Production::Region | Production::StructUnit => 7,
             Production::For => 8,
             Production::Location => 9,
         }

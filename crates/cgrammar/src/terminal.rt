@@ -238,9 +238,7 @@ impl Kind {
     fn is_specifier(self) -> bool
         ensures { result ≡ specs.is_specifier self }
     {
-        self.is_qualifier()
-            || self.is_keyword(Keyword::Static)
-            || self.is_keyword(Keyword::Inline)
+        self.is_qualifier() || self.is_keyword(Keyword::Static) || self.is_keyword(Keyword::Inline)
     }
 
     fn is_prefix(self) -> bool

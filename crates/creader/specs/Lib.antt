@@ -1,4 +1,5 @@
 pub mod Entries
 pub mod Machine
 pub mod Reader
+pub mod Rules
 pub mod Source

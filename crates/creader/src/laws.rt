@@ -1,6 +1,6 @@
 ghost use Rattle.std.specs.Prelude.{◌≡◌, ◌-◌, ◌<◌, ◌⊎◌, List, [], ◌∷◌, length, None};
 ghost use Rattle.csyn.specs.declared.token.Token.{Token};
-ghost use Rattle.cgrammar.specs.declared.part.Symbol.{Symbol};
+ghost use Rattle.creader.specs.declared.part.Symbol.{Symbol};
 ghost use Rattle.cgrammar.specs.Text.{Written, IsText, IsFirstFault};
 ghost use Rattle.creader.specs.Machine.{at, start, step, Reaches};
 ghost use Rattle.creader.specs.Source.{EndsOnce};

@@ -1,13 +1,14 @@
 //! Reading a source by the rules of the grammar.
 #![tactic(auto)]
 
-
 mod laws;
+mod part;
 mod read;
 mod read_fault;
 mod reader;
+mod table;
 
-pub use read_fault::ReadFault;
 pub use laws::{accepted_is_text, first_fault, one_text, text_is_accepted};
 pub use read::read_entries;
+pub use read_fault::ReadFault;
 pub use reader::Entry;

@@ -2,7 +2,9 @@
 ghost use Rattle.std.specs.Prelude.{◌≡◌, ◌++◌, List, OnOk, IfOk};
 ghost use Rattle.creader.specs.Reader as specs;
 
-use cgrammar::{Kind, Move, Part, Production, Rule, Symbol, Terminal, rule};
+use crate::part::{Move, Part, Rule, Symbol};
+use crate::table::rule;
+use cgrammar::{Kind, Production, Terminal};
 use std::alloc::{AllocError, Global};
 use std::collections::LinkedList;
 
@@ -42,7 +44,7 @@ pub enum Progress {
 
 impl Reader {
     ghost use Rattle.std.specs.Prelude.{◌≡◌, ◌+◌, ◌<◌, ◌^◌, ◌++◌, List, OnOk, IfOk};
-    ghost use Rattle.cgrammar.specs.Rules.{chosen};
+    ghost use Rattle.creader.specs.Rules.{chosen};
     ghost use Rattle.creader.specs.Reader as specs;
 
     /// At the beginning of a source.

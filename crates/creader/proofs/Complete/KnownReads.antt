@@ -8,7 +8,6 @@ use Rattle.cgrammar.specs.Kind.{kind_of}
 use Rattle.cgrammar.specs.Grammar as class
 use Rattle.cgrammar.specs.Grammar.{Class, under, home, class_number, words_number, is_wider}
 use Rattle.cgrammar.specs.Text.{Written, leaf, node, Forest, Stands}
-use Rattle.creader.specs.Machine.{at}
 use Rattle.creader.proofs.Complete.Reading.{Reads, reader, has_reader, level_reader, chain_of, chain_part, follow, allows, is_statement}
 use Rattle.creader.proofs.Complete.Heads.{Heads, Known, known_as, is_expression, is_level, level_of, levels_of, left, left_numbers, is_name_node, is_bare_name, barred_of}
 use Rattle.creader.proofs.Complete.Steps.{join}

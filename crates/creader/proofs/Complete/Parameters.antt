@@ -7,13 +7,13 @@ use Rattle.csyn.specs.declared.keyword.Keyword.TheVariants as keyword
 use Rattle.csyn.specs.declared.punctuator.Punctuator.TheVariants as punctuator
 use Rattle.cgrammar.specs.declared.kind.Kind.{Kind}
 use Rattle.cgrammar.specs.declared.production.Production.TheVariants as make
-use Rattle.cgrammar.specs.declared.part.Part.TheVariants as part
-use Rattle.cgrammar.specs.declared.part.Move.TheVariants as move
-use Rattle.cgrammar.specs.declared.part.Symbol.{Symbol}
-use Rattle.cgrammar.specs.declared.part.Symbol.TheVariants as symbol
+use Rattle.creader.specs.declared.part.Part.TheVariants as part
+use Rattle.creader.specs.declared.part.Move.TheVariants as move
+use Rattle.creader.specs.declared.part.Symbol.{Symbol}
+use Rattle.creader.specs.declared.part.Symbol.TheVariants as symbol
 use Rattle.cgrammar.specs.Kind.{kind_of}
 use Rattle.cgrammar.specs.Terminal.{accepts}
-use Rattle.cgrammar.specs.Rules.{any_accepts}
+use Rattle.creader.specs.Rules.{any_accepts}
 use Rattle.cgrammar.specs.Grammar as class
 use Rattle.cgrammar.specs.Grammar.{template, home}
 use Rattle.cgrammar.specs.Text.{Written, leaf, node, Forest, none, more, Match}

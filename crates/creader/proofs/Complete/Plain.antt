@@ -8,15 +8,15 @@ use Rattle.cgrammar.specs.declared.kind.Kind.TheVariants as kind
 use Rattle.cgrammar.specs.declared.production.Production.{Production}
 use Rattle.cgrammar.specs.declared.production.Production.TheVariants as make
 use Rattle.cgrammar.specs.declared.terminal.Terminal.{Terminal}
-use Rattle.cgrammar.specs.declared.part.Part.{Part}
-use Rattle.cgrammar.specs.declared.part.Part.TheVariants as read
-use Rattle.cgrammar.specs.declared.part.Move.{Move}
-use Rattle.cgrammar.specs.declared.part.Move.TheVariants as move
-use Rattle.cgrammar.specs.declared.part.Symbol.{Symbol}
-use Rattle.cgrammar.specs.declared.part.Symbol.TheVariants as symbol
+use Rattle.creader.specs.declared.part.Part.{Part}
+use Rattle.creader.specs.declared.part.Part.TheVariants as read
+use Rattle.creader.specs.declared.part.Move.{Move}
+use Rattle.creader.specs.declared.part.Move.TheVariants as move
+use Rattle.creader.specs.declared.part.Symbol.{Symbol}
+use Rattle.creader.specs.declared.part.Symbol.TheVariants as symbol
 use Rattle.cgrammar.specs.Kind.{kind_of}
 use Rattle.cgrammar.specs.Terminal.{accepts, keyword_number, punctuator_number}
-use Rattle.cgrammar.specs.Rules.{Rule, rules, choose, any_accepts}
+use Rattle.creader.specs.Rules.{Rule, rules, choose, any_accepts}
 use Rattle.cgrammar.specs.Grammar as class
 use Rattle.cgrammar.specs.Grammar.{Piece, token, part, template, home}
 use Rattle.cgrammar.specs.Text.{Written, leaf, node, Forest, Match, spells, dangles, last_dangles, ends_with_statement, is_if_without_else}

@@ -6,8 +6,8 @@ use Rattle.csyn.specs.declared.token.Token.{Token}
 use Rattle.cgrammar.specs.declared.kind.Kind.{Kind}
 use Rattle.cgrammar.specs.declared.production.Production.{Production}
 use Rattle.cgrammar.specs.declared.production.Production.TheVariants as make
-use Rattle.cgrammar.specs.declared.part.Symbol.{Symbol}
-use Rattle.cgrammar.specs.declared.part.Symbol.TheVariants as symbol
+use Rattle.creader.specs.declared.part.Symbol.{Symbol}
+use Rattle.creader.specs.declared.part.Symbol.TheVariants as symbol
 use Rattle.cgrammar.specs.Grammar as class
 use Rattle.cgrammar.specs.Grammar.{Class, Piece, token, part, template, home, under, is_wider, class_number, words_number, operator_level, assignment_class, alone, joined}
 use Rattle.cgrammar.specs.Text.{Written, leaf, node, Forest, none, more, IsProper, Match, spell, spells, dangles, last_dangles, begins_with_else}

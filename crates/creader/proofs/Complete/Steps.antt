@@ -6,12 +6,12 @@ use Rattle.csyn.specs.declared.token.Token.{Token}
 use Rattle.cgrammar.specs.declared.kind.Kind.{Kind}
 use Rattle.cgrammar.specs.declared.production.Production.{Production}
 use Rattle.cgrammar.specs.declared.terminal.Terminal.{Terminal}
-use Rattle.cgrammar.specs.declared.part.Part.{Part}
-use Rattle.cgrammar.specs.declared.part.Symbol.{Symbol}
-use Rattle.cgrammar.specs.declared.part.Symbol.TheVariants as symbol
+use Rattle.creader.specs.declared.part.Part.{Part}
+use Rattle.creader.specs.declared.part.Symbol.{Symbol}
+use Rattle.creader.specs.declared.part.Symbol.TheVariants as symbol
 use Rattle.cgrammar.specs.Kind.{kind_of}
 use Rattle.cgrammar.specs.Terminal.{accepts}
-use Rattle.cgrammar.specs.Rules.{Rule, rules, choose, any_accepts}
+use Rattle.creader.specs.Rules.{Rule, rules, choose, any_accepts}
 use Rattle.cgrammar.specs.Grammar.{Piece, template}
 use Rattle.cgrammar.specs.Text.{Written, leaf, node, Forest, none, more, Match}
 use Rattle.creader.specs.Machine.{State, at, Reaches, here, next, step, moved, gather, reduce}

@@ -1,8 +1,6 @@
 -- What is computed of the tables.
 use Rattle.std.proofs.Common.{◌≡◌, Bool, true, false, ◌&&◌, ◌||◌, not, List, [], ◌∷◌, ◌++◌, Option, Some, None, refl}
-use Rattle.csyn.specs.declared.keyword.Keyword.{Keyword}
 use Rattle.csyn.specs.declared.keyword.Keyword.TheVariants as keyword
-use Rattle.csyn.specs.declared.punctuator.Punctuator.{Punctuator}
 use Rattle.csyn.specs.declared.punctuator.Punctuator.TheVariants as punctuator
 use Rattle.cgrammar.specs.declared.kind.Kind.{Kind}
 use Rattle.cgrammar.specs.declared.kind.Kind.TheVariants as kind
@@ -10,14 +8,14 @@ use Rattle.cgrammar.specs.declared.production.Level.TheVariants as chain
 use Rattle.cgrammar.specs.declared.production.Words.TheVariants as words
 use Rattle.cgrammar.specs.declared.terminal.Terminal.{Terminal}
 use Rattle.cgrammar.specs.declared.terminal.Terminal.TheVariants as terminal
-use Rattle.cgrammar.specs.declared.part.Part.{Part}
-use Rattle.cgrammar.specs.declared.part.Part.TheVariants as part
-use Rattle.cgrammar.specs.declared.part.Move.{Move}
-use Rattle.cgrammar.specs.declared.part.Move.TheVariants as move
-use Rattle.cgrammar.specs.declared.part.Symbol.{Symbol}
-use Rattle.cgrammar.specs.declared.part.Symbol.TheVariants as symbol
+use Rattle.creader.specs.declared.part.Part.{Part}
+use Rattle.creader.specs.declared.part.Part.TheVariants as part
+use Rattle.creader.specs.declared.part.Move.{Move}
+use Rattle.creader.specs.declared.part.Move.TheVariants as move
+use Rattle.creader.specs.declared.part.Symbol.{Symbol}
+use Rattle.creader.specs.declared.part.Symbol.TheVariants as symbol
 use Rattle.cgrammar.specs.Terminal.{accepts, keyword_number, punctuator_number}
-use Rattle.cgrammar.specs.Rules.{Rule, rules, chain_rules, chain_tail_rules, words_rules, any_accepts, choose}
+use Rattle.creader.specs.Rules.{Rule, rules, chain_rules, chain_tail_rules, words_rules, any_accepts, choose}
 use Rattle.creader.proofs.Complete.Reading.{allows, extenders, operators_from}
 use Rattle.creader.proofs.Fault.Kinds.{every, every_kind}
 use Rattle.creader.proofs.Fault.Goes.{goes}

@@ -5,12 +5,12 @@ use Rattle.csyn.specs.declared.token.Token.{Token}
 use Rattle.cgrammar.specs.declared.kind.Kind.TheVariants as kind
 use Rattle.cgrammar.specs.declared.production.Production.TheVariants as make
 use Rattle.cgrammar.specs.declared.terminal.Terminal.TheVariants as terminal
-use Rattle.cgrammar.specs.declared.part.Part.TheVariants as part
-use Rattle.cgrammar.specs.declared.part.Symbol.{Symbol}
-use Rattle.cgrammar.specs.declared.part.Symbol.TheVariants as symbol
+use Rattle.creader.specs.declared.part.Part.TheVariants as part
+use Rattle.creader.specs.declared.part.Symbol.{Symbol}
+use Rattle.creader.specs.declared.part.Symbol.TheVariants as symbol
 use Rattle.cgrammar.specs.Kind.{kind_of}
 use Rattle.cgrammar.specs.Terminal.{accepts}
-use Rattle.cgrammar.specs.Rules.{Rule, rules, any_accepts, choose}
+use Rattle.creader.specs.Rules.{Rule, rules, any_accepts, choose}
 use Rattle.cgrammar.specs.Text.{Written, leaf, IsText, IsFirstFault}
 use Rattle.creader.specs.Machine.{State, at, reduce, step, Reaches, here, next, start}
 use Rattle.creader.specs.Source.{EndsOnce}
@@ -19,7 +19,7 @@ use Rattle.creader.proofs.Fault.Steps.{one_end, onwards, take_step}
 use Rattle.creader.proofs.Fault.Locality.{Way, way}
 use Rattle.creader.proofs.Fault.Samples.{sample, samples, kind-sample}
 use Rattle.creader.proofs.Fault.Table.{ends_before}
-use Rattle.creader.proofs.Fault.Checks.{completion, first, completes, spares_end}
+use Rattle.creader.proofs.Fault.Checks.{completion, completes, spares_end}
 use Rattle.creader.proofs.Fault.Completion.{completed}
 use Rattle.creader.proofs.Fault.Standing.{Ends, ends, bottom, Standing, above, last, over, stands}
 

@@ -10,8 +10,8 @@ use Rattle.cgrammar.specs.declared.production.Level.{Level}
 use Rattle.cgrammar.specs.declared.production.Level.TheVariants as chain
 use Rattle.cgrammar.specs.declared.terminal.Terminal.{Terminal}
 use Rattle.cgrammar.specs.declared.terminal.Terminal.TheVariants as terminal
-use Rattle.cgrammar.specs.declared.part.Part.{Part}
-use Rattle.cgrammar.specs.declared.part.Part.TheVariants as part
+use Rattle.creader.specs.declared.part.Part.{Part}
+use Rattle.creader.specs.declared.part.Part.TheVariants as part
 use Rattle.creader.proofs.Complete.Reading.{Follow, only, all_but, extenders}
 
 abbrev word : Keyword → Kind

@@ -1,5 +1,5 @@
 -- What the reader's answers mean.
-use Rattle.std.specs.Prelude.{◌≡◌, ◌⊎◌, ℕ, suc, ◌≤◌, get_or, ◌+◌, ◌-◌, ◌<◌, Bool, true, false, List, [], ◌∷◌, ◌++◌, length, drop, take, Option, Some, None, refl}
+use Rattle.std.specs.Prelude.{◌≡◌, ℕ, suc, ◌≤◌, get_or, ◌+◌, ◌-◌, ◌<◌, true, false, List, [], ◌∷◌, length, drop, refl}
 use Rattle.std.proofs.Common.{arith, sym, ap, subst, ◌∙◌, inl, inr, length-drop}
 use Rattle.std.proofs.lemmas.List.{append-nil, drop_all}
 use Rattle.std.proofs.Math.Seq.{drop-cons}
@@ -7,15 +7,13 @@ use Rattle.std.proofs.Math.Numerals.{add-one}
 use Rattle.csyn.specs.declared.token.Token.{Token}
 use Rattle.cgrammar.specs.declared.kind.Kind.{Kind}
 use Rattle.cgrammar.specs.Kind.{kind_of}
-use Rattle.cgrammar.specs.Text.{Written, none, more, IsText, IsFirstFault}
-use Rattle.creader.specs.declared.reader.Entry.{Entry}
+use Rattle.cgrammar.specs.Text.{Written, none, IsText, IsFirstFault}
 use Rattle.creader.specs.Entries.{entries, entries_of}
-use Rattle.creader.specs.Machine.{State, at, start, Reaches, here}
-use Rattle.creader.specs.Machine as machine
+use Rattle.creader.specs.Machine.{start, here}
 use Rattle.creader.specs.Reader.{Held, Feeds, at_start}
 use Rattle.creader.specs.Source.{EndsOnce}
 use Rattle.creader.proofs.Fault.First.{Sound, Whole, first_fault}
-use Rattle.creader.proofs.Reading.Represents.{turned, firsts_of, width, Represents}
+use Rattle.creader.proofs.Reading.Represents.{turned, firsts_of, width}
 use Rattle.creader.proofs.Reading.Run.{Run, Stops, fed, not-fed}
 
 -- at the beginning
@@ -23,7 +21,7 @@ pub begun : (tokens : List Token) (h : Held) → h ≡ at_start → Run (start t
 unfolding turned firsts_of width entries entries_of
 begun tokens h e =
     subst (λ x. Run (start tokens) x tokens) (sym e)
-        record { values = []; reaches = here; represents = record { firsts = refl; entries = refl; place = refl } }
+    record { values = []; reaches = here; represents = record { firsts = refl; entries = refl; place = refl } }
 
 -- at the end there is one value, a source, and the productions are its own
 pub read-whole : Sound → (tokens : List Token) (h : Held) → Run (start tokens) (record h { symbols = [] }) []
@@ -40,15 +38,17 @@ pub stopped : Sound → Whole → (tokens : List Token) (place : ℕ) → EndsOn
 stopped sound whole tokens place once within stop =
     let left : length (drop place tokens) ≡ length tokens - place = length-drop place tokens in
     elim (first_fault sound whole tokens (drop place tokens) stop.symbols stop.values once stop.reaches stop.stops) [
-      inl over ↦ let none : 0 ≡ length tokens - place = ap length (sym over.1) ∙ left in absurd (omega arith)
-    | inr fault ↦ let same : length tokens - length (drop place tokens) ≡ place = omega arith in subst (IsFirstFault tokens) same fault.0 ]
+      | inl over ↦ let none : 0 ≡ length tokens - place = ap length (sym over.1) ∙ left in absurd (omega arith)
+      | inr fault ↦ let same : length tokens - length (drop place tokens) ≡ place = omega arith in subst (IsFirstFault tokens) same fault.0
+    ]
 
 -- without a token left there is nothing to stop at
 pub never-left : Sound → Whole → (tokens : List Token) → EndsOnce tokens → (stop : Stops (start tokens) []) → (stop.symbols ≡ [] → ⊥) → ⊥
 never-left sound whole tokens once stop some =
     elim (first_fault sound whole tokens [] stop.symbols stop.values once stop.reaches stop.stops) [
-      inl over ↦ some over.0
-    | inr fault ↦ absurd (omega (arith, fault.1)) ]
+      | inl over ↦ some over.0
+      | inr fault ↦ absurd (omega (arith, fault.1))
+    ]
 
 -- the tokens from a place on
 next-token : (tokens : List Token) (place : ℕ) (token : Token) → token ≡ get_or tokens place token → place < length tokens
@@ -62,7 +62,7 @@ pub taken-at : (tokens : List Token) (place : ℕ) (token : Token) (kind : Kind)
 taken-at tokens place token kind before after is within same feeds run =
     let feeds' : Feeds (kind_of token) true before after = subst (λ k. Feeds k true before after) same feeds in
     let run' : Run (start tokens) before (token ∷ drop (place + 1) tokens) =
-        subst (λ ts. Run (start tokens) before ts) (next-token tokens place token is within) run in
+    subst (λ ts. Run (start tokens) before ts) (next-token tokens place token is within) run in
     fed (start tokens) token (drop (place + 1) tokens) before after feeds' run'
 
 -- a token that is not taken is the first fault

@@ -1,18 +1,18 @@
 -- What a step that takes no token leaves.
-use Rattle.std.specs.Prelude.{◌≡◌, ℕ, ◌+◌, ◌<◌, Bool, true, false, List, [], ◌∷◌, ◌++◌, Option, Some, None, refl, cond}
+use Rattle.std.specs.Prelude.{◌≡◌, ◌<◌, Bool, true, false, List, [], ◌∷◌, ◌++◌, Option, Some, None, refl, cond}
 use Rattle.std.proofs.Common.{arith, sym, ap, subst}
 use Rattle.cgrammar.specs.declared.kind.Kind.{Kind}
-use Rattle.cgrammar.specs.declared.part.Part.{Part}
-use Rattle.cgrammar.specs.declared.part.Move.{Move}
-use Rattle.cgrammar.specs.declared.part.Move.TheVariants as move
-use Rattle.cgrammar.specs.declared.part.Symbol.{Symbol}
-use Rattle.cgrammar.specs.declared.part.Symbol.TheVariants as symbol
+use Rattle.creader.specs.declared.part.Part.{Part}
+use Rattle.creader.specs.declared.part.Move.{Move}
+use Rattle.creader.specs.declared.part.Move.TheVariants as move
+use Rattle.creader.specs.declared.part.Symbol.{Symbol}
+use Rattle.creader.specs.declared.part.Symbol.TheVariants as symbol
 use Rattle.cgrammar.specs.Terminal.{accepts}
-use Rattle.cgrammar.specs.Rules.{Rule, rules, choose}
+use Rattle.creader.specs.Rules.{Rule, rules, choose}
 use Rattle.creader.specs.declared.reader.Progress.{Progress}
 use Rattle.creader.specs.declared.reader.Progress.TheVariants as progress
 use Rattle.creader.specs.Reader.{Held, step, step_by, followed, moved, pushed, reduced, taken}
-use Rattle.creader.proofs.Reading.Weight.{weigh, weight, is_sure_symbol, symbol_weight, lighter}
+use Rattle.creader.proofs.Reading.Weight.{weigh, is_sure_symbol, symbol_weight, lighter}
 
 -- lighter symbols, and the same place
 pub record Lighter (symbols : List Symbol) (before after : Held) : Type 0 where
@@ -25,7 +25,7 @@ moved_by rule move.Take part kind symbols h b way chosen e = let other : progres
 moved_by rule move.Stay part kind symbols h b way chosen e =
     let same : record h { symbols = rule.symbols ++ symbols } ≡ b = ap (λ (x : Progress × Held). x.1) e in
     subst (Lighter (symbol.Read part ∷ symbols) h) same
-        record { weighs = lighter part kind rule symbols chosen (sym way); place = refl }
+    record { weighs = lighter part kind rule symbols chosen (sym way); place = refl }
 
 read_by : (found : Option Rule) (part : Part) (kind : Kind) (symbols : List Symbol) (h b : Held) → choose (rules part) kind ≡ found
     → followed found (record h { symbols = symbols }) ≡ (progress.Moved, b) → Lighter (symbol.Read part ∷ symbols) h b
@@ -34,7 +34,7 @@ read_by (Some rule) part kind symbols h b chosen e = moved_by rule rule.move par
 
 take_by : (accepted : Bool) (symbols : List Symbol) (h b : Held) {P : Type 0}
     → ◌≡◌ {A = Progress × Held} (cond accepted (progress.Taken, taken (record h { symbols = symbols })) (progress.Stuck, record h { symbols = symbols }))
-        (progress.Moved, b) → P
+    (progress.Moved, b) → P
 take_by true symbols h b e = let other : progress.Taken ≡ progress.Moved = ap (λ (x : Progress × Held). x.0) e in absurd (cc)
 take_by false symbols h b e = let other : progress.Stuck ≡ progress.Moved = ap (λ (x : Progress × Held). x.0) e in absurd (cc)
 

@@ -1,13 +1,13 @@
 -- Each token that is taken counts one.
-use Rattle.std.specs.Prelude.{◌≡◌, ℕ, ◌+◌, Bool, true, false, List, [], ◌∷◌, ◌++◌, Option, Some, None, refl, cond}
-use Rattle.std.proofs.Common.{arith, sym, ap, subst, ◌∙◌}
+use Rattle.std.specs.Prelude.{◌≡◌, ℕ, ◌+◌, Bool, true, false, List, [], ◌∷◌, Option, Some, None, refl, cond}
+use Rattle.std.proofs.Common.{ap, subst, ◌∙◌}
 use Rattle.cgrammar.specs.declared.kind.Kind.{Kind}
-use Rattle.cgrammar.specs.declared.part.Move.{Move}
-use Rattle.cgrammar.specs.declared.part.Move.TheVariants as move
-use Rattle.cgrammar.specs.declared.part.Symbol.{Symbol}
-use Rattle.cgrammar.specs.declared.part.Symbol.TheVariants as symbol
+use Rattle.creader.specs.declared.part.Move.{Move}
+use Rattle.creader.specs.declared.part.Move.TheVariants as move
+use Rattle.creader.specs.declared.part.Symbol.{Symbol}
+use Rattle.creader.specs.declared.part.Symbol.TheVariants as symbol
 use Rattle.cgrammar.specs.Terminal.{accepts}
-use Rattle.cgrammar.specs.Rules.{Rule, rules, choose}
+use Rattle.creader.specs.Rules.{Rule, rules, choose}
 use Rattle.creader.specs.declared.reader.Progress.{Progress}
 use Rattle.creader.specs.declared.reader.Progress.TheVariants as progress
 use Rattle.creader.specs.Reader.{Held, step, step_by, followed, moved, pushed, reduced, taken, Moves, Feeds}
@@ -53,5 +53,5 @@ pub fed-place : (kind : Kind) (a b : Held) → Feeds kind true a b → b.place �
 unfolding Counts
 fed-place kind a b feeds =
     let count : b.place ≡ feeds.between.place + 1 =
-        subst (λ (x : Progress × Held). x.1.place ≡ counted x.0 feeds.between.place) feeds.last (counts-at feeds.between.symbols kind feeds.between) in
+    subst (λ (x : Progress × Held). x.1.place ≡ counted x.0 feeds.between.place) feeds.last (counts-at feeds.between.symbols kind feeds.between) in
     count ∙ ap (λ n. n + 1) (moves-place feeds.moves)

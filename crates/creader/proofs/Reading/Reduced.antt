@@ -1,17 +1,28 @@
 -- What a production makes of what the reader holds stands for what it makes of the values.
-use Rattle.std.specs.Prelude.{◌≡◌, ℕ, zero, suc, ◌+◌, ◌-◌, ◌<◌, ◌≤◌, Bool, true, false, List, [], ◌∷◌, ◌++◌, length, take, get_or, slice_index_or, refl}
-use Rattle.std.proofs.Common.{arith, sym, ap, subst, ◌∙◌, append_assoc, length-append, add-zero, add_assoc}
+use Rattle.std.specs.Prelude.{◌≡◌, ℕ, ◌+◌, ◌-◌, List, [], ◌∷◌, ◌++◌, length, take, get_or, refl}
+use Rattle.std.proofs.Common.{arith, sym, ap, ◌∙◌, append_assoc, add-zero}
 use Rattle.std.proofs.lemmas.List.{append-nil}
 use Rattle.std.proofs.Math.Seq.{take-append_seam, get_or-append_seam}
 use Rattle.cgrammar.specs.declared.production.Production.{Production}
 use Rattle.cgrammar.specs.Grammar.{template}
-use Rattle.cgrammar.specs.Text.{Written, leaf, node, Forest, none, more, spell, spells}
-use Rattle.creader.specs.declared.reader.Entry.{Entry}
+use Rattle.cgrammar.specs.Text.{Written, node, Forest, none, more, spell, spells}
 use Rattle.creader.specs.Entries.{entries, entries_of}
 use Rattle.creader.specs.Machine.{gather, reduce}
-use Rattle.creader.specs.Reader.{Held, reduced, taken}
-use Rattle.creader.proofs.Reading.Represents.{turned, firsts_of, width, count, Represents, turned-gather, width-turned, entries-turned, firsts-turned, length-firsts,
-    count-gather, count-turned}
+use Rattle.creader.specs.Reader.{Held, reduced}
+use Rattle.creader.proofs.Reading.Represents.{
+  turned,
+  firsts_of,
+  width,
+  count,
+  Represents,
+  turned-gather,
+  width-turned,
+  entries-turned,
+  firsts-turned,
+  length-firsts,
+  count-gather,
+  count-turned,
+}
 
 past : (xs : List ℕ) (d : ℕ) → get_or xs (length xs) d ≡ d
 past [] d = refl
@@ -31,8 +42,8 @@ one-width values production parts =
 
 one-entry : (values : List Written) (production : Production) (parts : Forest)
     → entries_of 0 (turned values (more (node production parts) none))
-        ≡ entries_of 0 (turned values parts)
-            ++ record { production = production; first = width (turned values none); end = width (turned values none) + width parts } ∷ []
+    ≡ entries_of 0 (turned values parts)
+    ++ record { production = production; first = width (turned values none); end = width (turned values none) + width parts } ∷ []
 unfolding width entries entries_of
 one-entry values production parts =
     let at = width (turned values none) in
@@ -61,9 +72,9 @@ reduced-by h production parts values firsts entries-are place below =
     let seam : length h.firsts - length (template production) ≡ length front = below ∙ sym many in
     let ends : h.place ≡ at + width parts = place ∙ width-turned values parts in
     let kept : take (length h.firsts - length (template production)) h.firsts ≡ front =
-        ap (λ n. take n h.firsts) seam ∙ ap (take (length front)) split ∙ take-append_seam front (firsts_of at parts) in
+    ap (λ n. take n h.firsts) seam ∙ ap (take (length front)) split ∙ take-append_seam front (firsts_of at parts) in
     let begins : get_or h.firsts (length h.firsts - length (template production)) h.place ≡ at =
-        ap (λ n. get_or h.firsts n h.place) seam ∙ ap (λ xs. get_or xs (length front) h.place) split ∙ first-part front at parts h.place ends in
+    ap (λ n. get_or h.firsts n h.place) seam ∙ ap (λ xs. get_or xs (length front) h.place) split ∙ first-part front at parts h.place ends in
     record {
       firsts = ap (λ xs. xs ++ get_or h.firsts (length h.firsts - length (template production)) h.place ∷ []) kept
           ∙ ap (λ n. front ++ n ∷ []) begins ∙ sym (one-first values production parts);
@@ -83,4 +94,4 @@ represents-reduced h values production r =
     let counts = count-gather n values none in
     let many : length h.firsts ≡ length values = ap length r.firsts ∙ length-firsts 0 (turned values none) ∙ count-turned values none ∙ add-zero (length values) in
     reduced-by h production g.0 g.1 (r.firsts ∙ ap (firsts_of 0) same) (r.entries ∙ ap (entries_of 0) same) (r.place ∙ ap width same)
-        (ap (λ m. m - n) many ∙ sym counts.1)
+    (ap (λ m. m - n) many ∙ sym counts.1)

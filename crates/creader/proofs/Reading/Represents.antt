@@ -1,16 +1,12 @@
 -- What the reader holds stands for what has been made of the tokens so far.
-use Rattle.std.specs.Prelude.{◌≡◌, ℕ, zero, suc, ◌+◌, ◌-◌, ◌<◌, ◌≤◌, Bool, true, false, List, [], ◌∷◌, ◌++◌, length, take, get_or, Option, Some, None, refl, cond}
-use Rattle.std.proofs.Common.{arith, sym, ap, subst, ◌∙◌, append_assoc, length-append, zero-add, add_assoc}
+use Rattle.std.specs.Prelude.{◌≡◌, ℕ, zero, suc, ◌+◌, ◌-◌, ◌≤◌, List, [], ◌∷◌, ◌++◌, length, refl}
+use Rattle.std.proofs.Common.{arith, sym, ap, ◌∙◌, append_assoc, length-append, zero-add}
 use Rattle.std.proofs.lemmas.List.{append-nil}
 use Rattle.csyn.specs.declared.token.Token.{Token}
-use Rattle.cgrammar.specs.declared.production.Production.{Production}
-use Rattle.cgrammar.specs.declared.part.Symbol.{Symbol}
-use Rattle.cgrammar.specs.Grammar.{template}
-use Rattle.cgrammar.specs.Text.{Written, leaf, node, Forest, none, more, spell, spells}
-use Rattle.creader.specs.declared.reader.Entry.{Entry}
+use Rattle.cgrammar.specs.Text.{Written, leaf, Forest, none, more, spell, spells}
 use Rattle.creader.specs.Entries.{entries, entries_of}
-use Rattle.creader.specs.Machine.{gather, reduce}
-use Rattle.creader.specs.Reader.{Held, reduced, taken}
+use Rattle.creader.specs.Machine.{gather}
+use Rattle.creader.specs.Reader.{Held, taken}
 
 -- the values in order, the last of which comes first, in front of a forest
 unfoldable pub turned : List Written → Forest → Forest
@@ -116,7 +112,7 @@ entries-one token values = entries-turned values (more (leaf token) none) ∙ ap
 pub represents-token : (h : Held) (values : List Written) (token : Token) → Represents h values → Represents (taken h) (leaf token ∷ values)
 unfolding turned
 represents-token h values token r = record {
-    firsts = ap (λ n. h.firsts ++ n ∷ []) r.place ∙ ap (λ f. f ++ width (turned values none) ∷ []) r.firsts ∙ sym (firsts-one token values);
-    entries = r.entries ∙ sym (entries-one token values);
-    place = ap (λ n. n + 1) r.place ∙ sym (width-more (leaf token) values);
-  }
+  firsts = ap (λ n. h.firsts ++ n ∷ []) r.place ∙ ap (λ f. f ++ width (turned values none) ∷ []) r.firsts ∙ sym (firsts-one token values);
+  entries = r.entries ∙ sym (entries-one token values);
+  place = ap (λ n. n + 1) r.place ∙ sym (width-more (leaf token) values);
+}

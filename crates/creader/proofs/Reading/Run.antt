@@ -1,13 +1,12 @@
 -- Whole runs of the reader are runs of the machine.
-use Rattle.std.specs.Prelude.{◌≡◌, ℕ, ◌+◌, Bool, true, false, List, [], ◌∷◌, ◌++◌, Option, Some, None, refl}
-use Rattle.std.proofs.Common.{arith, sym, ap, subst, ◌∙◌}
+use Rattle.std.specs.Prelude.{◌≡◌, Bool, true, false, List, [], ◌∷◌, None, refl}
+use Rattle.std.proofs.Common.{ap, subst, ◌∙◌}
 use Rattle.csyn.specs.declared.token.Token.{Token}
 use Rattle.cgrammar.specs.declared.kind.Kind.{Kind}
-use Rattle.cgrammar.specs.declared.part.Symbol.{Symbol}
-use Rattle.cgrammar.specs.declared.part.Symbol.TheVariants as symbol
+use Rattle.creader.specs.declared.part.Symbol.{Symbol}
+use Rattle.creader.specs.declared.part.Symbol.TheVariants as symbol
 use Rattle.cgrammar.specs.Kind.{kind_of}
-use Rattle.cgrammar.specs.Text.{Written, leaf}
-use Rattle.creader.specs.declared.reader.Progress.{Progress}
+use Rattle.cgrammar.specs.Text.{Written}
 use Rattle.creader.specs.declared.reader.Progress.TheVariants as progress
 use Rattle.creader.specs.Machine as machine
 use Rattle.creader.specs.Machine.{State, at, Reaches, here, next, reduce}
@@ -59,7 +58,9 @@ unfolding Simulated
 not-fed from token tokens before after feeds run =
     let middle = moves-run from token tokens refl feeds.moves run in
     record {
-      symbols = feeds.between.symbols; values = middle.values; reaches = middle.reaches;
+      symbols = feeds.between.symbols;
+      values = middle.values;
+      reaches = middle.reaches;
       stops = simulated feeds.between after progress.Stuck middle.values token tokens middle.represents feeds.last;
     }
 
@@ -73,7 +74,7 @@ finished-at from [] h after values reaches r e =
     record { values = values; reaches = reaches; represents = with-symbols [] after values kept }
 finished-at from (symbol.Reduce production ∷ symbols) h after values reaches r e =
     finished-at from symbols (reduced production (record h { symbols = symbols })) after (reduce production values) (reaches-on reaches (next refl here))
-        (represents-reduced (record h { symbols = symbols }) values production (with-symbols symbols h values r)) e
+    (represents-reduced (record h { symbols = symbols }) values production (with-symbols symbols h values r)) e
 finished-at from (symbol.Take terminal ∷ symbols) h after values reaches r e =
     let other : false ≡ true = ap (λ (x : Bool × Held). x.0) e in absurd (cc)
 finished-at from (symbol.Read part ∷ symbols) h after values reaches r e =

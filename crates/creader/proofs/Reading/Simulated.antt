@@ -1,14 +1,14 @@
 -- What the reader does is what the machine does.
-use Rattle.std.specs.Prelude.{◌≡◌, ℕ, ◌+◌, Bool, true, false, List, [], ◌∷◌, ◌++◌, Option, Some, None, refl, cond}
-use Rattle.std.proofs.Common.{arith, sym, ap, subst, ◌∙◌}
+use Rattle.std.specs.Prelude.{◌≡◌, Bool, true, false, List, [], ◌∷◌, ◌++◌, Option, Some, None, refl, cond}
+use Rattle.std.proofs.Common.{subst}
 use Rattle.csyn.specs.declared.token.Token.{Token}
-use Rattle.cgrammar.specs.declared.part.Move.{Move}
-use Rattle.cgrammar.specs.declared.part.Move.TheVariants as move
-use Rattle.cgrammar.specs.declared.part.Symbol.{Symbol}
-use Rattle.cgrammar.specs.declared.part.Symbol.TheVariants as symbol
+use Rattle.creader.specs.declared.part.Move.{Move}
+use Rattle.creader.specs.declared.part.Move.TheVariants as move
+use Rattle.creader.specs.declared.part.Symbol.{Symbol}
+use Rattle.creader.specs.declared.part.Symbol.TheVariants as symbol
 use Rattle.cgrammar.specs.Kind.{kind_of}
 use Rattle.cgrammar.specs.Terminal.{accepts}
-use Rattle.cgrammar.specs.Rules.{Rule, rules, choose}
+use Rattle.creader.specs.Rules.{Rule, rules, choose}
 use Rattle.cgrammar.specs.Text.{Written, leaf}
 use Rattle.creader.specs.declared.reader.Progress.{Progress}
 use Rattle.creader.specs.declared.reader.Progress.TheVariants as progress
@@ -44,7 +44,7 @@ by-rule (Some rule) symbols h values token tokens r =
 
 by-token : (accepted : Bool) (symbols : List Symbol) (h : Held) (values : List Written) (token : Token) (tokens : List Token) → Represents h values
     → let x : Progress × Held = cond accepted (progress.Taken, taken (record h { symbols = symbols })) (progress.Stuck, record h { symbols = symbols }) in
-      Simulated x.0 x.1 token tokens (cond accepted (Some (at symbols (leaf token ∷ values) tokens)) None)
+    Simulated x.0 x.1 token tokens (cond accepted (Some (at symbols (leaf token ∷ values) tokens)) None)
 unfolding Simulated
 by-token true symbols h values token tokens r =
     (leaf token ∷ values, refl, represents-token (record h { symbols = symbols }) values token (with-symbols symbols h values r))

@@ -1,17 +1,17 @@
 -- Steps that take no token come to an end: the symbols up to the first that surely takes one weigh less each time.
-use Rattle.std.specs.Prelude.{◌≡◌, ℕ, ◌+◌, ◌<◌, Bool, true, false, not, ◌||◌, ◌&&◌, nat_lt, if◌then◌else◌, List, [], ◌∷◌, ◌++◌, Option, Some, None, refl, cond, ◌⊎◌}
+use Rattle.std.specs.Prelude.{◌≡◌, ℕ, ◌+◌, ◌<◌, Bool, true, false, not, ◌||◌, ◌&&◌, nat_lt, if◌then◌else◌, List, [], ◌∷◌, ◌++◌, Option, Some, refl, cond, ◌⊎◌}
 use Rattle.std.specs.List.{list_all}
-use Rattle.std.proofs.Common.{arith, sym, ap, subst, inl, inr, ltb-true, zero-add, add_assoc}
+use Rattle.std.proofs.Common.{arith, sym, ap, subst, inl, inr, ltb-true, zero-add}
 use Rattle.cgrammar.specs.declared.kind.Kind.{Kind}
-use Rattle.cgrammar.specs.declared.part.Part.{Part}
-use Rattle.cgrammar.specs.declared.part.Part.TheVariants as part
-use Rattle.cgrammar.specs.declared.part.Move.{Move}
-use Rattle.cgrammar.specs.declared.part.Move.TheVariants as move
-use Rattle.cgrammar.specs.declared.part.Symbol.{Symbol}
-use Rattle.cgrammar.specs.declared.part.Symbol.TheVariants as symbol
+use Rattle.creader.specs.declared.part.Part.{Part}
+use Rattle.creader.specs.declared.part.Part.TheVariants as part
+use Rattle.creader.specs.declared.part.Move.{Move}
+use Rattle.creader.specs.declared.part.Move.TheVariants as move
+use Rattle.creader.specs.declared.part.Symbol.{Symbol}
+use Rattle.creader.specs.declared.part.Symbol.TheVariants as symbol
 use Rattle.cgrammar.specs.declared.production.Level.TheVariants as level
 use Rattle.cgrammar.specs.declared.production.Words.TheVariants as words
-use Rattle.cgrammar.specs.Rules.{Rule, rules, chain_rules, chain_tail_rules, words_rules, choose, any_accepts}
+use Rattle.creader.specs.Rules.{Rule, rules, chain_rules, chain_tail_rules, words_rules, choose, any_accepts}
 
 -- how many steps a part may take before a token is taken, at most
 unfoldable pub weight : Part → ℕ
@@ -331,8 +331,9 @@ chosen_is p [] kind rule each chosen = absurd (cc)
 chosen_is p (first ∷ others) kind rule each chosen =
     let parts = both (p first) (list_all p others) each in
     elim (chosen_by (any_accepts first.on kind) first rule (choose others kind) chosen) [
-      inl same ↦ subst (λ r. p r ≡ true) same parts.0
-    | inr later ↦ chosen_is p others kind rule parts.1 later ]
+      | inl same ↦ subst (λ r. p r ≡ true) same parts.0
+      | inr later ↦ chosen_is p others kind rule parts.1 later
+    ]
 
 weigh_append_by : (sure stop : Bool) (first front all rest : ℕ) → all ≡ cond stop front (front + rest)
     → cond sure first (first + all) ≡ cond (sure || stop) (cond sure first (first + front)) (cond sure first (first + front) + rest)
@@ -345,7 +346,7 @@ unfolding weigh stops
 weigh_append [] symbols = sym (zero-add (weigh symbols))
 weigh_append (symbol ∷ front) symbols =
     weigh_append_by (is_sure_symbol symbol) (stops front) (symbol_weight symbol) (weigh front) (weigh (front ++ symbols)) (weigh symbols)
-        (weigh_append front symbols)
+    (weigh_append front symbols)
 
 lighter_by : (sure stop : Bool) (new old rest : ℕ) → new < old → (not sure || stop) ≡ true → cond stop new (new + rest) < cond sure old (old + rest)
 lighter_by true true new old rest less h = less
@@ -361,7 +362,7 @@ lighter part kind rule symbols chosen stay =
     let light = chosen_is (is_light part) (rules part) kind rule (all_light part) chosen in
     let no_take : is_take rule.move ≡ false = ap is_take stay in
     let parts = both (nat_lt (weigh rule.symbols) (weight part)) (not (is_sure part) || stops rule.symbols)
-        (either (is_take rule.move) (nat_lt (weigh rule.symbols) (weight part) && (not (is_sure part) || stops rule.symbols)) light no_take) in
+    (either (is_take rule.move) (nat_lt (weigh rule.symbols) (weight part) && (not (is_sure part) || stops rule.symbols)) light no_take) in
     let less : weigh rule.symbols < weight part = ltb-true (weigh rule.symbols) (weight part) parts.0 in
     subst (λ n. n < cond (is_sure part) (weight part) (weight part + weigh symbols)) (sym (weigh_append rule.symbols symbols))
-        (lighter_by (is_sure part) (stops rule.symbols) (weigh rule.symbols) (weight part) (weigh symbols) less parts.1)
+    (lighter_by (is_sure part) (stops rule.symbols) (weigh rule.symbols) (weight part) (weigh symbols) less parts.1)

@@ -9,16 +9,16 @@ use Rattle.cgrammar.specs.declared.production.Production.TheVariants as make
 use Rattle.cgrammar.specs.declared.production.Level.{Level}
 use Rattle.cgrammar.specs.declared.production.Level.TheVariants as chain
 use Rattle.cgrammar.specs.declared.production.Words.TheVariants as every
-use Rattle.cgrammar.specs.declared.part.Part.{Part}
-use Rattle.cgrammar.specs.declared.part.Part.TheVariants as part
-use Rattle.cgrammar.specs.declared.part.Move.{Move}
-use Rattle.cgrammar.specs.declared.part.Move.TheVariants as move
-use Rattle.cgrammar.specs.declared.part.Symbol.{Symbol}
-use Rattle.cgrammar.specs.declared.part.Symbol.TheVariants as symbol
+use Rattle.creader.specs.declared.part.Part.{Part}
+use Rattle.creader.specs.declared.part.Part.TheVariants as part
+use Rattle.creader.specs.declared.part.Move.{Move}
+use Rattle.creader.specs.declared.part.Move.TheVariants as move
+use Rattle.creader.specs.declared.part.Symbol.{Symbol}
+use Rattle.creader.specs.declared.part.Symbol.TheVariants as symbol
 use Rattle.cgrammar.specs.Terminal.{accepts, keyword_number, punctuator_number}
 use Rattle.cgrammar.specs.Grammar as class
 use Rattle.cgrammar.specs.Grammar.{Class, Piece, word, sign, under, is_wider, class_number, words_number, operator_level, operator_token, assignment_class, assignment_token, word_token, alone, before, joined, home, template}
-use Rattle.cgrammar.specs.Rules.{Rule, rules, chain_rules, chain_tail_rules, words_rules}
+use Rattle.creader.specs.Rules.{Rule, rules, chain_rules, chain_tail_rules, words_rules}
 use Rattle.creader.proofs.Sound.Kinds.{keywords, punctuators, plain_kinds, every_kind}
 use Rattle.creader.proofs.Sound.Order.{covered, below}
 

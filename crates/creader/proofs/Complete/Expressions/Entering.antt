@@ -7,12 +7,12 @@ use Rattle.csyn.specs.declared.punctuator.Punctuator.TheVariants as punctuator
 use Rattle.cgrammar.specs.declared.kind.Kind.{Kind}
 use Rattle.cgrammar.specs.declared.kind.Kind.TheVariants as kind
 use Rattle.cgrammar.specs.declared.production.Production.{Production}
-use Rattle.cgrammar.specs.declared.part.Part.TheVariants as part
-use Rattle.cgrammar.specs.declared.part.Symbol.{Symbol}
-use Rattle.cgrammar.specs.declared.part.Symbol.TheVariants as symbol
+use Rattle.creader.specs.declared.part.Part.TheVariants as part
+use Rattle.creader.specs.declared.part.Symbol.{Symbol}
+use Rattle.creader.specs.declared.part.Symbol.TheVariants as symbol
 use Rattle.cgrammar.specs.Kind.{kind_of}
 use Rattle.cgrammar.specs.Terminal.{accepts, keyword_number, punctuator_number}
-use Rattle.cgrammar.specs.Rules.{rules, chain_rules, chain_tail_rules, choose, any_accepts}
+use Rattle.creader.specs.Rules.{rules, chain_rules, chain_tail_rules, choose, any_accepts}
 use Rattle.cgrammar.specs.Grammar as class
 use Rattle.cgrammar.specs.Grammar.{template, home}
 use Rattle.cgrammar.specs.Text.{Written, leaf, node, Forest, spell, Match, IsProper}

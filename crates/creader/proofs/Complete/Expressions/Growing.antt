@@ -6,7 +6,7 @@ use Rattle.cgrammar.specs.declared.production.Production.{Production}
 use Rattle.cgrammar.specs.declared.production.Production.TheVariants as make
 use Rattle.cgrammar.specs.declared.terminal.Terminal.{Terminal}
 use Rattle.cgrammar.specs.Terminal.{accepts, keyword_number, punctuator_number}
-use Rattle.cgrammar.specs.Rules.{rules, chain_rules, chain_tail_rules, choose, any_accepts}
+use Rattle.creader.specs.Rules.{rules, chain_rules, chain_tail_rules, choose, any_accepts}
 use Rattle.cgrammar.specs.Grammar as class
 use Rattle.cgrammar.specs.Grammar.{Piece, sign, template, home, operator_level, operator_token, assignment_class, assignment_token}
 use Rattle.cgrammar.specs.Text.{Forest, node, Match}

@@ -6,11 +6,11 @@ use Rattle.cgrammar.specs.declared.kind.Kind.{Kind}
 use Rattle.cgrammar.specs.declared.production.Production.{Production}
 use Rattle.cgrammar.specs.declared.production.Production.TheVariants as make
 use Rattle.cgrammar.specs.declared.terminal.Terminal.{Terminal}
-use Rattle.cgrammar.specs.declared.part.Symbol.{Symbol}
-use Rattle.cgrammar.specs.declared.part.Symbol.TheVariants as symbol
+use Rattle.creader.specs.declared.part.Symbol.{Symbol}
+use Rattle.creader.specs.declared.part.Symbol.TheVariants as symbol
 use Rattle.cgrammar.specs.Kind.{kind_of}
 use Rattle.cgrammar.specs.Terminal.{accepts}
-use Rattle.cgrammar.specs.Rules.{any_accepts}
+use Rattle.creader.specs.Rules.{any_accepts}
 use Rattle.cgrammar.specs.Grammar as class
 use Rattle.cgrammar.specs.Grammar.{Class, Piece, template, home, under, is_wider}
 use Rattle.cgrammar.specs.Text.{Written, leaf, node, Forest, none, more, spells, Match, IsProper}

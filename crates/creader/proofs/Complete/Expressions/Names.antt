@@ -5,12 +5,12 @@ use Rattle.csyn.specs.declared.punctuator.Punctuator.TheVariants as punctuator
 use Rattle.cgrammar.specs.declared.production.Production.{Production}
 use Rattle.cgrammar.specs.declared.production.Production.TheVariants as make
 use Rattle.cgrammar.specs.declared.terminal.Terminal.TheVariants as terminal
-use Rattle.cgrammar.specs.declared.part.Part.TheVariants as part
-use Rattle.cgrammar.specs.declared.part.Symbol.{Symbol}
-use Rattle.cgrammar.specs.declared.part.Symbol.TheVariants as symbol
+use Rattle.creader.specs.declared.part.Part.TheVariants as part
+use Rattle.creader.specs.declared.part.Symbol.{Symbol}
+use Rattle.creader.specs.declared.part.Symbol.TheVariants as symbol
 use Rattle.cgrammar.specs.Kind.{kind_of}
 use Rattle.cgrammar.specs.Terminal.{accepts, keyword_number, punctuator_number}
-use Rattle.cgrammar.specs.Rules.{rules, choose, any_accepts}
+use Rattle.creader.specs.Rules.{rules, choose, any_accepts}
 use Rattle.cgrammar.specs.Grammar as class
 use Rattle.cgrammar.specs.Grammar.{Piece, sign, template, home, under, is_wider, class_number, words_number, operator_level, assignment_class, alone, joined}
 use Rattle.cgrammar.specs.Text.{Written, leaf, node, Forest, none, more, spells, Match, IsProper, dangles}

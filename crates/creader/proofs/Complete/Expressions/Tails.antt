@@ -4,10 +4,10 @@ use Rattle.std.proofs.lemmas.Bool.{and_parts, and_from, leb-true}
 use Rattle.csyn.specs.declared.token.Token.{Token}
 use Rattle.cgrammar.specs.declared.kind.Kind.{Kind}
 use Rattle.cgrammar.specs.declared.production.Production.{Production}
-use Rattle.cgrammar.specs.declared.part.Symbol.{Symbol}
+use Rattle.creader.specs.declared.part.Symbol.{Symbol}
 use Rattle.cgrammar.specs.Kind.{kind_of}
 use Rattle.cgrammar.specs.Terminal.{accepts, keyword_number, punctuator_number}
-use Rattle.cgrammar.specs.Rules.{rules, chain_rules, chain_tail_rules, choose, any_accepts}
+use Rattle.creader.specs.Rules.{rules, chain_rules, chain_tail_rules, choose, any_accepts}
 use Rattle.cgrammar.specs.Grammar.{home, operator_level, assignment_class}
 use Rattle.cgrammar.specs.Text.{Written}
 use Rattle.creader.specs.Machine.{at, Reaches}

@@ -1,9 +1,5 @@
 -- Where the reader has come, what it has made, and where it stops.
-use Rattle.std.proofs.Common.{◌≡◌, ◌∙◌, ◌+◌, ◌<◌, ℕ, Bool, true, false, List, [], ◌∷◌, length, drop, get_or, sym, ap, subst, refl, arith, zero, suc}
-use Rattle.std.proofs.Math.Seq.{drop-cons}
-use Rattle.std.proofs.Math.Numerals.{add-one}
-use Rattle.csyn.specs.declared.token.Token.{Token}
-use Rattle.cgrammar.specs.Kind.{kind_of}
+use Rattle.std.proofs.Common.{◌≡◌, ◌∙◌, ◌+◌, Bool, true, false, ap, subst}
 use Rattle.creader.specs.Machine.{start}
 use Rattle.creader.specs.Reader.{Held, held, Feeds, finished}
 use Rattle.creader.proofs.Both.{sound, whole}
@@ -18,7 +14,7 @@ loop-place-init c = record { run = begun c.args.tokens.now (held c.in_ok-reader.
 pub loop-place-preserved : goal.loop-place-preserved
 loop-place-preserved c =
     let feeds : Feeds c.of.result true (held c.loop-place.reader) (held c.feed.new.self) =
-        subst (λ b. Feeds c.of.result b (held c.loop-place.reader) (held c.feed.new.self)) c.if-not-branch.false c.in_ok-feed.ensures in
+    subst (λ b. Feeds c.of.result b (held c.loop-place.reader) (held c.feed.new.self)) c.if-not-branch.false c.in_ok-feed.ensures in
     record {
       run = taken-at c.args.tokens.now c.loop-place.place c.index-tokens-place.result c.of.result (held c.loop-place.reader) (held c.feed.new.self)
           c.index-tokens-place.is c.loop-place-test.true c.of.ensures feeds c.loop-place.invariant.run;
@@ -28,16 +24,16 @@ loop-place-preserved c =
 pub returns-then-not-branch-clause-fault : goal.returns-then-not-branch-clause-fault
 returns-then-not-branch-clause-fault c =
     let feeds : Feeds c.of.result false (held c.loop-place.reader) (held c.feed.new.self) =
-        subst (λ b. Feeds c.of.result b (held c.loop-place.reader) (held c.feed.new.self)) c.if-not-branch.true c.in_ok-feed.ensures in
+    subst (λ b. Feeds c.of.result b (held c.loop-place.reader) (held c.feed.new.self)) c.if-not-branch.true c.in_ok-feed.ensures in
     refused-at sound whole c.args.tokens.now c.loop-place.place c.index-tokens-place.result c.of.result (held c.loop-place.reader) (held c.feed.new.self)
-        c.requires.ends c.index-tokens-place.is c.loop-place-test.true c.of.ensures feeds c.loop-place.invariant.run
+    c.requires.ends c.index-tokens-place.is c.loop-place-test.true c.of.ensures feeds c.loop-place.invariant.run
 
 -- something left that wants a token: that never is
 pub returns-then-not-branch-2-clause-fault : goal.returns-then-not-branch-2-clause-fault
 returns-then-not-branch-2-clause-fault c =
     let run = at-end c.args.tokens.now c.loop-place.place (held c.loop-place.reader) c.loop-place-test.false c.loop-place.invariant.run in
     let over : ◌≡◌ {A = Bool × Held} (finished c.loop-place.reader.symbols (held c.loop-place.reader)) (false, held c.finish.new.self) =
-        c.in_ok-finish.ensures ∙ ap (λ b. (b, held c.finish.new.self)) c.if-not-branch-2.true in
+    c.in_ok-finish.ensures ∙ ap (λ b. (b, held c.finish.new.self)) c.if-not-branch-2.true in
     let left = not-ended (start c.args.tokens.now) (held c.loop-place.reader) (held c.finish.new.self) over run in
     absurd (never-left sound whole c.args.tokens.now c.requires.ends left.0 left.1)
 
@@ -45,6 +41,6 @@ pub returns-clause-entries : goal.returns-clause-entries
 returns-clause-entries c =
     let run = at-end c.args.tokens.now c.loop-place.place (held c.loop-place.reader) c.loop-place-test.false c.loop-place.invariant.run in
     let over : ◌≡◌ {A = Bool × Held} (finished c.loop-place.reader.symbols (held c.loop-place.reader)) (true, held c.finish.new.self) =
-        c.in_ok-finish.ensures ∙ ap (λ b. (b, held c.finish.new.self)) c.if-not-branch-2.false in
+    c.in_ok-finish.ensures ∙ ap (λ b. (b, held c.finish.new.self)) c.if-not-branch-2.false in
     read-whole sound c.args.tokens.now (held c.finish.new.self)
-        (ended (start c.args.tokens.now) (held c.loop-place.reader) (held c.finish.new.self) over run)
+    (ended (start c.args.tokens.now) (held c.loop-place.reader) (held c.finish.new.self) over run)

@@ -1,23 +1,23 @@
 -- The rules of the parts, as the code has them, and which is chosen.
-use Rattle.std.specs.Prelude.{ℕ, Bool, List, [], ◌∷◌, ◌++◌, map, Option, Some, None, if◌then◌else◌, ◌||◌, false}
+use Rattle.std.specs.Prelude.{Bool, List, [], ◌∷◌, map, Option, Some, None, if◌then◌else◌, ◌||◌, false}
 use Rattle.std.specs.Borrow.{Bor}
 use Rattle.cgrammar.specs.declared.kind.Kind.{Kind}
 use Rattle.cgrammar.specs.declared.terminal.Terminal.{Terminal}
-use Rattle.cgrammar.specs.declared.part.Part.{Part}
-use Rattle.cgrammar.specs.declared.part.Part.TheVariants as part
-use Rattle.cgrammar.specs.declared.part.Move.{Move}
-use Rattle.cgrammar.specs.declared.part.Symbol.{Symbol}
+use Rattle.creader.specs.declared.part.Part.{Part}
+use Rattle.creader.specs.declared.part.Part.TheVariants as part
+use Rattle.creader.specs.declared.part.Move.{Move}
+use Rattle.creader.specs.declared.part.Symbol.{Symbol}
 use Rattle.cgrammar.specs.declared.production.Level.{Level}
 use Rattle.cgrammar.specs.declared.production.Level.TheVariants as level
 use Rattle.cgrammar.specs.declared.production.Words.{Words}
 use Rattle.cgrammar.specs.declared.production.Words.TheVariants as words
 use Rattle.cgrammar.specs.Terminal.{accepts}
-use Rattle.cgrammar.specs.declared.table.expression.TheConstants.{EXPRESSION, COMMA_TAIL, ASSIGNMENT, ASSIGNMENT_TAIL, ASSIGNMENT_PARENTHESIS, CONDITIONAL, CONDITIONAL_TAIL, OPERAND, OPERAND_PARENTHESIS, UNARY, SIZEOF_OPERAND, SIZEOF_PARENTHESIS, AFTER_NAME, NAME_TAIL, POSTFIX_TAIL, ARGUMENTS, MORE_ARGUMENTS, OPTIONAL_EXPRESSION}
-use Rattle.cgrammar.specs.declared.table.chain.TheConstants.{CHAIN_OR, CHAIN_TAIL_OR, CHAIN_AND, CHAIN_TAIL_AND, CHAIN_BIT_OR, CHAIN_TAIL_BIT_OR, CHAIN_BIT_XOR, CHAIN_TAIL_BIT_XOR, CHAIN_BIT_AND, CHAIN_TAIL_BIT_AND, CHAIN_EQUALITY, CHAIN_TAIL_EQUALITY, CHAIN_RELATION, CHAIN_TAIL_RELATION, CHAIN_SHIFT, CHAIN_TAIL_SHIFT, CHAIN_SUM, CHAIN_TAIL_SUM, CHAIN_PRODUCT, CHAIN_TAIL_PRODUCT}
-use Rattle.cgrammar.specs.declared.table.types.TheConstants.{TYPE_NAME, TYPE, BASE, WORDS_SIGN, WORDS_CHAR, WORDS_LENGTH, WORDS_INT, WORDS_SIGN_CHAR, WORDS_SIGN_LENGTH, WORDS_SIGN_INT, WORDS_LENGTH_INT, WORDS_SIGN_LENGTH_INT, QUALIFIERS, POINTERS, STARS_TAIL, AFTER_STAR, POINTERS_TAIL, AFTER_NEXT_STAR}
-use Rattle.cgrammar.specs.declared.table.declaration.TheConstants.{LENGTHS, DECLARATOR, MORE_DECLARATORS, STRUCT_MEMBER, MORE_MEMBERS, LOCATION, INITIAL, INIT, MORE_INITS, AFTER_INIT_COMMA, INIT_DECLARATOR, MORE_INIT_DECLARATORS, OBJECT}
-use Rattle.cgrammar.specs.declared.table.statement.TheConstants.{STATEMENT, OPTIONAL_ELSE, FOR_FIRST, ITEMS}
-use Rattle.cgrammar.specs.declared.table.unit.TheConstants.{UNITS, UNIT, AFTER_VOLATILE, REGISTER_TYPE, AFTER_TAG, EXTERNAL_REST, FUNCTION_END, PARAMETERS, AFTER_VOID, PARAMETER, PARAMETER_TAIL, PARAMETER_AFTER_STAR, PARAMETER_END, PARAMETER_LENGTH, MORE_PARAMETERS}
+use Rattle.creader.specs.declared.table.expression.TheConstants.{EXPRESSION, COMMA_TAIL, ASSIGNMENT, ASSIGNMENT_TAIL, ASSIGNMENT_PARENTHESIS, CONDITIONAL, CONDITIONAL_TAIL, OPERAND, OPERAND_PARENTHESIS, UNARY, SIZEOF_OPERAND, SIZEOF_PARENTHESIS, AFTER_NAME, NAME_TAIL, POSTFIX_TAIL, ARGUMENTS, MORE_ARGUMENTS, OPTIONAL_EXPRESSION}
+use Rattle.creader.specs.declared.table.chain.TheConstants.{CHAIN_OR, CHAIN_TAIL_OR, CHAIN_AND, CHAIN_TAIL_AND, CHAIN_BIT_OR, CHAIN_TAIL_BIT_OR, CHAIN_BIT_XOR, CHAIN_TAIL_BIT_XOR, CHAIN_BIT_AND, CHAIN_TAIL_BIT_AND, CHAIN_EQUALITY, CHAIN_TAIL_EQUALITY, CHAIN_RELATION, CHAIN_TAIL_RELATION, CHAIN_SHIFT, CHAIN_TAIL_SHIFT, CHAIN_SUM, CHAIN_TAIL_SUM, CHAIN_PRODUCT, CHAIN_TAIL_PRODUCT}
+use Rattle.creader.specs.declared.table.types.TheConstants.{TYPE_NAME, TYPE, BASE, WORDS_SIGN, WORDS_CHAR, WORDS_LENGTH, WORDS_INT, WORDS_SIGN_CHAR, WORDS_SIGN_LENGTH, WORDS_SIGN_INT, WORDS_LENGTH_INT, WORDS_SIGN_LENGTH_INT, QUALIFIERS, POINTERS, STARS_TAIL, AFTER_STAR, POINTERS_TAIL, AFTER_NEXT_STAR}
+use Rattle.creader.specs.declared.table.declaration.TheConstants.{LENGTHS, DECLARATOR, MORE_DECLARATORS, STRUCT_MEMBER, MORE_MEMBERS, LOCATION, INITIAL, INIT, MORE_INITS, AFTER_INIT_COMMA, INIT_DECLARATOR, MORE_INIT_DECLARATORS, OBJECT}
+use Rattle.creader.specs.declared.table.statement.TheConstants.{STATEMENT, OPTIONAL_ELSE, FOR_FIRST, ITEMS}
+use Rattle.creader.specs.declared.table.unit.TheConstants.{UNITS, UNIT, AFTER_VOLATILE, REGISTER_TYPE, AFTER_TAG, EXTERNAL_REST, FUNCTION_END, PARAMETERS, AFTER_VOID, PARAMETER, PARAMETER_TAIL, PARAMETER_AFTER_STAR, PARAMETER_END, PARAMETER_LENGTH, MORE_PARAMETERS}
 
 -- for which tokens, what becomes of the token, and what the part is replaced by
 pub record Rule : Type 0 where
@@ -25,7 +25,7 @@ pub record Rule : Type 0 where
   pub move : Move
   pub symbols : List Symbol
 
-abbrev pub rule_of : (record {now : List Terminal}) × Move × (record {now : List Symbol}) → Rule
+abbrev pub rule_of : (record { now : List Terminal }) × Move × (record { now : List Symbol }) → Rule
 rule_of entry = record { on = entry.0.now; move = entry.1; symbols = entry.2.now }
 
 -- the same behind references

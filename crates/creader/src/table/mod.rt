@@ -1,18 +1,16 @@
 //! The rules by which a source is read, looking one token ahead.
 ghost use Rattle.std.specs.Prelude.{◌≡◌, ◌<◌, map};
-ghost use Rattle.cgrammar.specs.Rules as specs;
+ghost use Rattle.creader.specs.Rules as specs;
 
-mod expression;
 mod chain;
-mod types;
 mod declaration;
+mod expression;
 mod statement;
+mod types;
 mod unit;
 
-use crate::kind::Kind;
 use crate::part::{Part, Rule};
-use crate::production::{Level, Words};
-use crate::terminal::Terminal;
+use cgrammar::{Kind, Level, Terminal, Words};
 use csyn::{Keyword, Punctuator};
 
 /// What an expression begins with.

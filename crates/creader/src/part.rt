@@ -1,6 +1,5 @@
 //! The parts of a source that the reader expects.
-use crate::production::{Level, Production, Words};
-use crate::terminal::Terminal;
+use cgrammar::{Level, Production, Terminal, Words};
 
 /// A part that is expected. `After..`, `..Tail` and `..End` go on with what has been read before them.
 #[derive(Clone, Copy, Debug, PartialEq, Eq)]

@@ -1,0 +1,168 @@
+//! Rules of statements.
+use crate::part::Symbol::{Read, Reduce, Take};
+use crate::part::{Move, Part, Rule};
+use crate::table::TYPE_STARTS;
+use cgrammar::{Production, Terminal};
+use csyn::{Keyword, Punctuator};
+
+pub const STATEMENT: [Rule; 10] = [
+    (
+        &[Terminal::Punctuator(Punctuator::LeftBrace)],
+        Move::Take,
+        &[
+            Read(Part::Items),
+            Take(Terminal::Punctuator(Punctuator::RightBrace)),
+            Reduce(Production::Block),
+        ],
+    ),
+    (
+        &[Terminal::Keyword(Keyword::If)],
+        Move::Take,
+        &[
+            Take(Terminal::Punctuator(Punctuator::LeftParenthesis)),
+            Read(Part::Expression),
+            Take(Terminal::Punctuator(Punctuator::RightParenthesis)),
+            Read(Part::Statement),
+            Read(Part::OptionalElse),
+            Reduce(Production::If),
+        ],
+    ),
+    (
+        &[Terminal::Keyword(Keyword::While)],
+        Move::Take,
+        &[
+            Take(Terminal::Punctuator(Punctuator::LeftParenthesis)),
+            Read(Part::Expression),
+            Take(Terminal::Punctuator(Punctuator::RightParenthesis)),
+            Read(Part::Statement),
+            Reduce(Production::While),
+        ],
+    ),
+    (
+        &[Terminal::Keyword(Keyword::Do)],
+        Move::Take,
+        &[
+            Read(Part::Statement),
+            Take(Terminal::Keyword(Keyword::While)),
+            Take(Terminal::Punctuator(Punctuator::LeftParenthesis)),
+            Read(Part::Expression),
+            Take(Terminal::Punctuator(Punctuator::RightParenthesis)),
+            Take(Terminal::Punctuator(Punctuator::Semicolon)),
+            Reduce(Production::Do),
+        ],
+    ),
+    (
+        &[Terminal::Keyword(Keyword::For)],
+        Move::Take,
+        &[
+            Take(Terminal::Punctuator(Punctuator::LeftParenthesis)),
+            Read(Part::ForFirst),
+            Read(Part::OptionalExpression),
+            Take(Terminal::Punctuator(Punctuator::Semicolon)),
+            Read(Part::OptionalExpression),
+            Take(Terminal::Punctuator(Punctuator::RightParenthesis)),
+            Read(Part::Statement),
+            Reduce(Production::For),
+        ],
+    ),
+    (
+        &[Terminal::Keyword(Keyword::Break)],
+        Move::Take,
+        &[
+            Take(Terminal::Punctuator(Punctuator::Semicolon)),
+            Reduce(Production::Break),
+        ],
+    ),
+    (
+        &[Terminal::Keyword(Keyword::Continue)],
+        Move::Take,
+        &[
+            Take(Terminal::Punctuator(Punctuator::Semicolon)),
+            Reduce(Production::Continue),
+        ],
+    ),
+    (
+        &[Terminal::Keyword(Keyword::Return)],
+        Move::Take,
+        &[
+            Read(Part::OptionalExpression),
+            Take(Terminal::Punctuator(Punctuator::Semicolon)),
+            Reduce(Production::Return),
+        ],
+    ),
+    (
+        &[Terminal::Keyword(Keyword::Region)],
+        Move::Take,
+        &[
+            Take(Terminal::Punctuator(Punctuator::LeftParenthesis)),
+            Take(Terminal::Literal),
+            Reduce(Production::RegionName),
+            Take(Terminal::Punctuator(Punctuator::RightParenthesis)),
+            Take(Terminal::Punctuator(Punctuator::LeftBrace)),
+            Read(Part::Items),
+            Take(Terminal::Punctuator(Punctuator::RightBrace)),
+            Reduce(Production::Region),
+        ],
+    ),
+    (
+        &[Terminal::Any],
+        Move::Stay,
+        &[
+            Read(Part::OptionalExpression),
+            Take(Terminal::Punctuator(Punctuator::Semicolon)),
+            Reduce(Production::ExpressionStatement),
+        ],
+    ),
+];
+
+pub const OPTIONAL_ELSE: [Rule; 2] = [
+    (
+        &[Terminal::Keyword(Keyword::Else)],
+        Move::Take,
+        &[Read(Part::Statement), Reduce(Production::Else)],
+    ),
+    (&[Terminal::Any], Move::Stay, &[Reduce(Production::NoElse)]),
+];
+
+pub const FOR_FIRST: [Rule; 2] = [
+    (
+        TYPE_STARTS,
+        Move::Stay,
+        &[Read(Part::Object), Reduce(Production::ForObject)],
+    ),
+    (
+        &[Terminal::Any],
+        Move::Stay,
+        &[
+            Read(Part::OptionalExpression),
+            Take(Terminal::Punctuator(Punctuator::Semicolon)),
+            Reduce(Production::ForExpression),
+        ],
+    ),
+];
+
+pub const ITEMS: [Rule; 3] = [
+    (
+        &[Terminal::Punctuator(Punctuator::RightBrace)],
+        Move::Stay,
+        &[Reduce(Production::EndItems)],
+    ),
+    (
+        TYPE_STARTS,
+        Move::Stay,
+        &[
+            Read(Part::Object),
+            Read(Part::Items),
+            Reduce(Production::NextObject),
+        ],
+    ),
+    (
+        &[Terminal::Any],
+        Move::Stay,
+        &[
+            Read(Part::Statement),
+            Read(Part::Items),
+            Reduce(Production::NextStatement),
+        ],
+    ),
+];
