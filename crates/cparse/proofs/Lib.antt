@@ -1,0 +1,4 @@
+pub mod Ascending
+mod Pass
+mod Step
+mod Walk
