@@ -1,4 +1,8 @@
 pub mod Ascending
+mod Built
 mod Pass
 mod Step
+mod StepMade
+mod Turns
 mod Walk
+mod Within

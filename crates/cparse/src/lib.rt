@@ -1,10 +1,13 @@
 //! From tokens to trees (C99 6.5 to 6.9, in this project's subset).
 #![tactic(auto)]
 
+mod build;
 mod laws;
 mod levels;
+mod make;
+mod parse;
 mod value;
 
 pub use laws::one_first_deep;
-pub use levels::first_deep;
+pub use parse::parse;
 pub use value::Value;
