@@ -5,9 +5,9 @@ mod build;
 mod laws;
 mod levels;
 mod make;
-mod parse;
+mod parser;
 mod value;
 
 pub use laws::one_first_deep;
-pub use parse::parse;
+pub use parser::parse;
 pub use value::Value;
