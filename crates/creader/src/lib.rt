@@ -12,3 +12,6 @@ pub use laws::{accepted_is_text, first_fault, one_text, text_is_accepted};
 pub use read::read_entries;
 pub use read_fault::ReadFault;
 pub use reader::Entry;
+
+#[cfg(test)]
+mod tests;
