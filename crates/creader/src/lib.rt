@@ -1,4 +1,5 @@
-//! Reading a source by the rules of the grammar.
+//! Reading a source by the rules of the grammar (C99 6.5 to 6.9, in this project's subset), looking one token ahead: its
+//! productions, or the first token that can't stand where it stands.
 #![tactic(auto)]
 
 mod laws;

@@ -1,4 +1,4 @@
-use Rattle.std.proofs.Common.{◌≡◌, ◌≢◌, ◌≤◌, length, All}
+use Rattle.std.proofs.Common.{◌≡◌, ◌≢◌, length, All}
 use Rattle.cgrammar.specs.declared.kind.Kind.TheVariants as kind
 use Rattle.cgrammar.specs.Kind.{kind_of}
 use Rattle.creader.proofs.tests.source.Given as goal
