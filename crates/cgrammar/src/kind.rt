@@ -4,7 +4,7 @@ ghost use Rattle.cgrammar.specs.Kind as specs;
 
 use csyn::{Keyword, Punctuator, StandardInteger, Token, TokenKind};
 
-/// What a token is for the grammar: spellings and values aside, but for three names.
+/// What a token is for the grammar (C99 6.4): spellings and values aside, but for three names.
 #[derive(Clone, Copy, Debug, PartialEq, Eq)]
 pub enum Kind {
     /// An identifier of any other spelling.
@@ -13,8 +13,11 @@ pub enum Kind {
     RegisterName,
     /// `location`.
     LocationName,
+    /// An integer constant.
     Number,
+    /// A character constant.
     Character,
+    /// A string literal.
     Literal,
     /// A type name of `<stdint.h>` but `uint32_t`.
     Standard,
@@ -22,6 +25,7 @@ pub enum Kind {
     Uint32,
     Keyword(Keyword),
     Punctuator(Punctuator),
+    /// The end token of a source.
     End,
 }
 
@@ -39,7 +43,7 @@ fn name_kind(name: &[u8]) -> Kind
 }
 
 impl Kind {
-    /// What the token is.
+    /// The kind of a token.
     pub fn of(token: &Token) -> Kind
         ensures { result ≡ specs.kind_of token.now }
     {

@@ -8,3 +8,6 @@ mod terminal;
 pub use kind::Kind;
 pub use production::{Level, Production, Word, Words};
 pub use terminal::Terminal;
+
+#[cfg(test)]
+mod tests;

@@ -1,7 +1,7 @@
 //! The productions of the grammar.
 use csyn::BinaryOperator;
 
-/// A word of an integer type: `signed` or `unsigned`, `char`, `short` or `long`, `int`.
+/// A word of an integer type (C99 6.7.2): `signed` or `unsigned`, `char`, `short` or `long`, `int`.
 #[derive(Clone, Copy, Debug, PartialEq, Eq)]
 pub enum Word {
     Sign,
@@ -10,7 +10,7 @@ pub enum Word {
     Int,
 }
 
-/// Which words of an integer type stand together, in any order.
+/// Which words of an integer type stand together, in any order (C99 6.7.2).
 #[derive(Clone, Copy, Debug, PartialEq, Eq)]
 pub enum Words {
     Sign,
@@ -24,7 +24,7 @@ pub enum Words {
     SignLengthInt,
 }
 
-/// The levels of operators between two operands, the loosest first.
+/// The levels of operators between two operands, the loosest first (C99 6.5.5 to 6.5.14).
 #[derive(Clone, Copy, Debug, PartialEq, Eq)]
 pub enum Level {
     Or,
@@ -39,17 +39,22 @@ pub enum Level {
     Product,
 }
 
-/// A production of the grammar. What stands on its right side is in `specs/Templates`.
+/// A production of the grammar: of which parts and tokens a part of a source is made. Its right side is `template` in
+/// `specs/Grammar`. That of `No..`, `End..` and `TrailingComma` is empty, and `Next..` is one more of a list.
 #[derive(Clone, Copy, Debug, PartialEq, Eq)]
 pub enum Production {
-    // expressions
+    // expressions (C99 6.5)
+    /// A name, wherever one stands.
     Identifier,
+    /// An expression that is a name, but not of a function that is called.
     Name,
     Number,
     Character,
     Parenthesised,
     Index,
+    /// A call of a function by its name.
     CallFunction,
+    /// A call of any other expression.
     Call,
     Member,
     Arrow,
@@ -57,6 +62,7 @@ pub enum Production {
     PostDecrement,
     PreIncrement,
     PreDecrement,
+    /// `+`, `-`, `!`, `~`, `*` or `&` in front of an operand.
     Prefix,
     SizeofExpression,
     SizeofType,
@@ -72,11 +78,14 @@ pub enum Production {
     NextArgument,
     NoExpression,
     SomeExpression,
-    // types
+    // types (C99 6.7.1 to 6.7.4 and 6.7.6)
     TypeName,
+    /// A specifier in front of a type.
     Specified,
+    /// A base and the qualifiers behind it.
     Based,
     NoQualifiers,
+    /// One more qualifier.
     Qualified,
     VoidBase,
     StructBase,
@@ -85,10 +94,13 @@ pub enum Production {
     FirstWord(Word),
     NextWord(Words, Word),
     NoPointers,
+    /// One more `*` where no pointer has a qualifier.
     Star,
+    /// One more `*` with qualifiers.
     QualifiedPointer,
+    /// One more `*` without, behind a pointer that has some.
     NextPointer,
-    // declarations
+    // declarations (C99 6.7)
     NoLengths,
     Length,
     Declarator,
@@ -98,20 +110,24 @@ pub enum Production {
     EndMembers,
     NextMember,
     NoLocation,
+    /// `__attribute__((location(..)))`.
     Location,
     NoInitial,
     Initial,
     InitialExpression,
+    /// An initialiser in braces.
     Braced,
     EndInits,
+    /// A comma and what stands behind it.
     CommaInits,
+    /// Nothing between a comma and the closing brace.
     TrailingComma,
     NextInit,
     InitDeclarator,
     EndInitDeclarators,
     NextInitDeclarator,
     LocalObject,
-    // statements
+    // statements (C99 6.8)
     Block,
     ExpressionStatement,
     If,
@@ -126,17 +142,25 @@ pub enum Production {
     Continue,
     Return,
     RegionName,
+    /// `__region(..) {..}`.
     Region,
     EndItems,
     NextObject,
     NextStatement,
-    // units
+    // units (C99 6.9)
+    /// The definition of a struct.
     StructUnit,
+    /// A register's declaration: `volatile register`, its type and its name.
     RegisterUnit,
+    /// A register's type, `unsigned int`.
     UnsignedInt,
+    /// A register's type, `uint32_t`.
     RegisterUint32,
+    /// A declaration or definition of objects or of a function.
     External,
+    /// What stands behind the first name of objects.
     ObjectRest,
+    /// What stands behind the name of a function.
     FunctionRest,
     PrototypeEnd,
     FunctionBody,
@@ -144,6 +168,7 @@ pub enum Production {
     VoidParameters,
     SomeParameters,
     Parameter,
+    /// A parameter with `[]`.
     ArrayParameter,
     EndParameters,
     NextParameter,
@@ -266,7 +291,7 @@ impl Production {
         }
     }
 
-    /// How many of them are no tokens.
+    /// How many parts stand on its right side, tokens left out.
     #[tactic(auto, unfolding(crate::specs::Grammar::template, crate::specs::Grammar::parts_among))]
     pub fn children(self) -> usize
         ensures { result ≡ parts_among (template self) }
@@ -490,7 +515,8 @@ impl Production {
         }
     }
 
-    /// Whether it makes a node of the tree.
+    /// Whether it makes a node of the tree: a unit, a local object, a statement, an initialiser in braces or an expression.
+    /// Parentheses make none, nor does the name of a function that is called.
     pub fn is_node(self) -> bool
         ensures { result ≡ is_node self }
     {

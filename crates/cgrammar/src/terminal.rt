@@ -5,7 +5,7 @@ ghost use Rattle.cgrammar.specs.Terminal as specs;
 use crate::kind::Kind;
 use csyn::{Keyword, Punctuator};
 
-/// What may stand at the place of a token.
+/// What may stand at the place of a token: tokens of one kind or of some.
 #[derive(Clone, Copy, Debug, PartialEq, Eq)]
 pub enum Terminal {
     /// An identifier of any spelling.
@@ -14,8 +14,11 @@ pub enum Terminal {
     RegisterName,
     /// `location`.
     LocationName,
+    /// An integer constant.
     Number,
+    /// A character constant.
     Character,
+    /// A string literal.
     Literal,
     /// A type name of `<stdint.h>`.
     Standard,
@@ -33,6 +36,7 @@ pub enum Terminal {
     Prefix,
     Keyword(Keyword),
     Punctuator(Punctuator),
+    /// The end token of a source.
     End,
     /// Any token.
     Any,

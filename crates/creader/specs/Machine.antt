@@ -35,10 +35,12 @@ unfoldable pub reduce : Production → List Written → List Written
 reduce production values =
     let gathered = gather (length (template production)) values none in node production gathered.0 ∷ gathered.1
 
+-- what becomes of the token by which a rule is chosen
 abbrev pub moved : Move → List Symbol → List Written → Token → List Token → State
 moved move.Take symbols values token tokens = at symbols (leaf token ∷ values) tokens
 moved move.Stay symbols values token tokens = at symbols values (token ∷ tokens)
 
+-- the part is replaced by what the rule says
 abbrev pub follow_rule : Option Rule → List Symbol → List Written → Token → List Token → Option State
 follow_rule None symbols values token tokens = None
 follow_rule (Some rule) symbols values token tokens = Some (moved rule.move (rule.symbols ++ symbols) values token tokens)

@@ -15,6 +15,7 @@ use Rattle.creader.specs.declared.reader.Reader.{Reader}
 use Rattle.creader.specs.declared.reader.Progress.{Progress}
 use Rattle.creader.specs.declared.reader.Progress.TheVariants as progress
 
+-- the symbols that are left (the next first), where each value begins, the productions so far, and how many tokens have been taken
 pub record Held : Type 0 where
   pub symbols : List Symbol
   pub firsts : List ℕ
@@ -24,6 +25,7 @@ pub record Held : Type 0 where
 abbrev pub held : Reader → Held
 held reader = record { symbols = reader.symbols; firsts = reader.firsts.items; entries = reader.entries.items; place = reader.place }
 
+-- at the beginning of a source
 abbrev pub at_start : Held
 at_start = record { symbols = (start []).symbols; firsts = []; entries = []; place = 0 }
 
@@ -38,13 +40,16 @@ reduced production h =
     let first = slice_index_or h.firsts below h.place in
     record h { firsts = take below h.firsts ++ first ∷ []; entries = h.entries ++ record { production = production; first = first; end = h.place } ∷ [] }
 
+-- symbols are put in front
 abbrev pub pushed : List Symbol → Held → Held
 pushed symbols h = record h { symbols = symbols ++ h.symbols }
 
+-- what becomes of the token by which a rule is chosen
 abbrev pub moved : Move → Held → Progress × Held
 moved move.Take h = (progress.Taken, taken h)
 moved move.Stay h = (progress.Moved, h)
 
+-- the part is replaced by what the rule says; with no rule the token can't stand
 abbrev pub followed : Option Rule → Held → Progress × Held
 followed None h = (progress.Stuck, h)
 followed (Some rule) h = moved rule.move (pushed rule.symbols h)
@@ -57,6 +62,7 @@ step_by (symbol.Take terminal ∷ symbols) kind h =
     if accepts terminal kind then (progress.Taken, taken (record h { symbols = symbols })) else (progress.Stuck, record h { symbols = symbols })
 step_by (symbol.Read part ∷ symbols) kind h = followed (choose (rules part) kind) (record h { symbols = symbols })
 
+-- one step before a token of this kind
 abbrev pub step : Kind → Held → Progress × Held
 step kind h = step_by h.symbols kind h
 
@@ -65,6 +71,7 @@ pub data Moves (kind : Kind) : Held → Held → Type 0 where
   none : {h : Held} → Moves kind h h
   more : {a b c : Held} → Moves kind a b → step kind b ≡ (progress.Moved, c) → Moves kind a c
 
+-- what the last step did
 abbrev pub last_progress : Bool → Progress
 last_progress true = progress.Taken
 last_progress false = progress.Stuck

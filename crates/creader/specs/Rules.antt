@@ -25,13 +25,15 @@ pub record Rule : Type 0 where
   pub move : Move
   pub symbols : List Symbol
 
+-- a rule as a table of the code has it
 abbrev pub rule_of : (record { now : List Terminal }) × Move × (record { now : List Symbol }) → Rule
 rule_of entry = record { on = entry.0.now; move = entry.1; symbols = entry.2.now }
 
--- the same behind references
+-- a rule as the code passes it, behind references
 abbrev pub rule_at : Bor (List Terminal) × Move × Bor (List Symbol) → Rule
 rule_at entry = record { on = entry.0.now; move = entry.1; symbols = entry.2.now }
 
+-- the rules of each part
 unfoldable pub chain_rules : Level → List Rule
 chain_rules level.Or = map rule_of CHAIN_OR
 chain_rules level.And = map rule_of CHAIN_AND
@@ -141,7 +143,7 @@ unfoldable pub choose : List Rule → Kind → Option Rule
 choose [] kind = None
 choose (rule ∷ others) kind = if any_accepts rule.on kind then Some rule else choose others kind
 
--- the same behind references
+-- the chosen rule behind references
 abbrev pub chosen : Option (Bor (List Terminal) × Move × Bor (List Symbol)) → Option Rule
 chosen None = None
 chosen (Some entry) = Some (rule_at entry)

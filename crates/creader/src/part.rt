@@ -1,7 +1,8 @@
 //! The parts of a source that the reader expects.
 use cgrammar::{Level, Production, Terminal, Words};
 
-/// A part that is expected. `After..`, `..Tail` and `..End` go on with what has been read before them.
+/// A part that is expected. `After..`, `..Tail`, `..Rest` and `..End` go on with what has been read before them,
+/// `..Parenthesis` behind an opening parenthesis, and `More..` goes on with a list or ends it.
 #[derive(Clone, Copy, Debug, PartialEq, Eq)]
 pub enum Part {
     // expressions
@@ -12,14 +13,18 @@ pub enum Part {
     AssignmentParenthesis,
     Conditional,
     ConditionalTail,
+    /// Operands of the next level, with operators of this one between them.
     Chain(Level),
     ChainTail(Level),
+    /// A cast or a unary expression.
     Operand,
     OperandParenthesis,
     Unary,
+    /// What stands behind `sizeof`.
     SizeofOperand,
     SizeofParenthesis,
     AfterName,
+    /// What may stand behind a name that is not called.
     NameTail,
     PostfixTail,
     Arguments,
@@ -29,11 +34,14 @@ pub enum Part {
     TypeName,
     Type,
     Base,
+    /// The words of an integer type that may follow these.
     Words(Words),
     Qualifiers,
     Pointers,
+    /// Behind pointers without qualifiers.
     StarsTail,
     AfterStar,
+    /// Behind pointers of which one has qualifiers.
     PointersTail,
     AfterNextStar,
     // declarations
@@ -62,6 +70,7 @@ pub enum Part {
     RegisterType,
     AfterTag,
     ExternalRest,
+    /// The body of a function, or the semicolon of a prototype.
     FunctionEnd,
     Parameters,
     AfterVoid,
@@ -69,6 +78,7 @@ pub enum Part {
     ParameterTail,
     ParameterAfterStar,
     ParameterEnd,
+    /// What stands behind the `[` of a parameter's first length.
     ParameterLength,
     MoreParameters,
 }
@@ -94,5 +104,5 @@ pub enum Move {
 }
 
 /// A rule of a part: for which tokens it is, what becomes of the token, and what the part is replaced by. Of the rules
-/// of a part the first that accepts the token is chosen.
+/// of a part the first that accepts the next token is chosen.
 pub type Rule = (&'static [Terminal], Move, &'static [Symbol]);

@@ -10,7 +10,10 @@ use cgrammar::Kind;
 use csyn::Token;
 use std::alloc::Global;
 
-/// The productions of a source in the order in which they end, or the first token that can't stand where it stands.
+/// The productions of a source in the order in which they end: each behind those of its parts, and `Source` last. The
+/// last of the tokens, and no other, is the end token.
+/// Err(Token(place)): some source begins with the tokens before that place, and none with the token there as well.
+/// Err(Memory): no memory is left.
 pub fn read_entries(alloc: Global, tokens: &[Token]) -> Result<Vec<Entry>, ReadFault>
     requires short { length tokens.now < 2 ^ 31 }
     requires ends { EndsOnce tokens.now }

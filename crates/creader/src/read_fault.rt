@@ -6,8 +6,9 @@ use std::alloc::{AllocError, AllocFailed};
 /// Why tokens were refused.
 #[derive(Clone, Copy, Debug, PartialEq, Eq)]
 pub enum ReadFault {
-    /// The first token that can't stand where it stands, by its place from 0.
+    /// The first token that can't stand where it stands, by its place in the tokens, counted from 0.
     Token(usize),
+    /// No memory is left.
     Memory,
 }
 

@@ -8,11 +8,11 @@ use cgrammar::{Kind, Production, Terminal};
 use std::alloc::{AllocError, Global};
 use std::collections::LinkedList;
 
-/// A production of a source, and of which tokens.
+/// A production that is used in a source, and for which tokens. `first` and `end` are equal where it is of none.
 #[derive(Clone, Copy, Debug, PartialEq, Eq)]
 pub struct Entry {
     pub production: Production,
-    /// The place of its first token, counted from 0.
+    /// The place of its first token in the tokens of the source, counted from 0.
     pub first: usize,
     /// The place behind its last token.
     pub end: usize,

@@ -18,10 +18,12 @@ use Rattle.creader.proofs.Fault.Goes.{goes_on_tokens}
 use Rattle.creader.proofs.Fault.Table.{short, ends_before, pick}
 use Rattle.creader.proofs.Fault.Checks.{completion, first, completes, spares_end, pick_accepted, short_test, short_is_read, rules_test, rules_complete, leaves_token, end_is_left}
 
+-- two that are true are true together
 pub and_both : (a b : Bool) → a ≡ true → b ≡ true → (a && b) ≡ true
 and_both true b h k = k
 and_both false b h k = h
 
+-- of an implication that is computed
 implied : (a b : Bool) → (not a || b) ≡ true → a ≡ true → b ≡ true
 implied true b h k = h
 implied false b h k = cc
@@ -37,6 +39,7 @@ before_completion : (p : Part) (kinds : List Kind) (token : Token) (tokens : Lis
 before_completion p [] token tokens h = short_done p token tokens h
 before_completion p (kind ∷ kinds) token tokens h = short_done p (sample kind) (samples kinds ++ token ∷ tokens) (rw kind-sample h)
 
+-- what can be completed before a token is read to its end by its completion
 pub completed : (symbols : List Symbol) (token : Token) (tokens : List Token) → completes symbols (kind_of token) ≡ true
     → Done symbols (samples (completion symbols)) (token ∷ tokens)
 unfolding completes completion
@@ -51,10 +54,12 @@ completed (symbol.Read p ∷ symbols) token tokens h =
     (before_completion p (completion symbols) token tokens (and_left _ _ h))
     (completed symbols token tokens (and_right _ (completes symbols (kind_of token)) h)))
 
+-- the first kind of two lists and what follows them
 first-append : (one other : List Kind) (following : Kind) → first (one ++ other) following ≡ first one (first other following)
 first-append [] other following = refl
 first-append (kind ∷ kinds) other following = refl
 
+-- completions of symbols stand behind one another
 completion-append : (one other : List Symbol) → completion (one ++ other) ≡ completion one ++ completion other
 unfolding completion
 completion-append [] other = refl
@@ -62,6 +67,7 @@ completion-append (symbol.Take t ∷ one) other = ap (λ x. pick t ∷ x) (compl
 completion-append (symbol.Reduce p ∷ one) other = completion-append one other
 completion-append (symbol.Read p ∷ one) other = rw (append_assoc, completion-append one other)
 
+-- the first symbols can be completed before the completion of the others
 pub completes-append : (one other : List Symbol) (following : Kind) → completes one (first (completion other) following) ≡ true
     → completes other following ≡ true → completes (one ++ other) following ≡ true
 unfolding completes completion
@@ -71,6 +77,7 @@ completes-append (symbol.Reduce p ∷ one) other following h k = completes-appen
 completes-append (symbol.Read p ∷ one) other following h k =
     and_both _ _ (rw (completion-append one other, first-append) (and_left _ _ h)) (completes-append one other following (and_right _ _ h) k)
 
+-- symbols that leave the end token alone, behind one another
 pub spares_end-append : (one other : List Symbol) → spares_end one ≡ true → spares_end other ≡ true → spares_end (one ++ other) ≡ true
 unfolding spares_end
 spares_end-append [] other h k = k
@@ -90,14 +97,17 @@ every_chosen q (r ∷ rs) kind rule h e = go (any_accepts r.on kind) refl (λ la
         subst (λ x. q x ≡ true) same (and_left _ _ h)
     go false is others = others (rw (is, choose) at e)
 
+-- what a rule puts in the place of a part can be completed before what may follow the part
 pub rule_completes : (p : Part) (kind following : Kind) (rule : Rule) → choose (rules p) kind ≡ Some rule
     → allows (ends_before p) following ≡ true → completes rule.symbols following ≡ true
 rule_completes p kind following rule chosen h =
     every_chosen (λ r. completes r.symbols following) (rules p) kind rule
     (implied _ _ (every_kind_at (rules_test p) (rules_complete p) following) h) chosen
 
+-- and leaves the end token alone
 pub rule_spares_end : (p : Part) (kind : Kind) (rule : Rule) → choose (rules p) kind ≡ Some rule → spares_end rule.symbols ≡ true
 rule_spares_end p kind rule chosen = every_chosen (λ r. spares_end r.symbols) (rules p) kind rule (and_right _ _ (end_is_left p)) chosen
 
+-- no rule takes the end token
 pub end_stays : (p : Part) (rule : Rule) → choose (rules p) kind.End ≡ Some rule → rule.move ≡ move.Take → ⊥
 end_stays p rule chosen takes = let h = rw (chosen, takes) at (and_left (leaves_token (choose (rules p) kind.End)) _ (end_is_left p)) in cc

@@ -20,9 +20,11 @@ pub record Done (symbols : List Symbol) (front behind : List Token) : Type 0 whe
   pub done : (below : List Symbol) (values : List Written)
       → (made : List Written) × Reaches (at (symbols ++ below) values (front ++ behind)) (at below made behind)
 
+-- no symbols are done with no tokens
 pub done_nothing : (behind : List Token) → Done [] [] behind
 done_nothing behind = record { done = λ below values. (values, here) }
 
+-- a production takes no token
 pub done_reduce : (p : Production) (symbols : List Symbol) (front behind : List Token) → Done symbols front behind
     → Done (symbol.Reduce p ∷ symbols) front behind
 unfolding step
@@ -31,6 +33,7 @@ done_reduce p symbols front behind rest = record {
       let more = rest.done below (reduce p values) in (more.0, next refl more.1);
 }
 
+-- a token that may stand is taken
 pub done_take : (t : Terminal) (symbols : List Symbol) (token : Token) (front behind : List Token) → accepts t (kind_of token) ≡ true
     → Done symbols front behind → Done (symbol.Take t ∷ symbols) (token ∷ front) behind
 done_take t symbols token front behind fits rest = record {

@@ -38,6 +38,7 @@ one_text whole tokens a b text other =
     let same = one_end (whole tokens a text) (whole tokens b other) refl refl in
     let same' : a ∷ [] ≡ b ∷ [] = ap (λ (x : State). x.values) same in cc
 
+-- the symbols have that form at the beginning of a source
 start_stands : (tokens : List Token) → Ends tokens → Standing (start tokens).symbols tokens
 unfolding completes spares_end completion ends_before allows any_accepts accepts
 start_stands tokens once = above (record { upper = symbol.Read part.Units ∷ []; is = refl; can_end = refl; spares = refl; ahead = once })
@@ -96,6 +97,7 @@ no_further whole tokens symbols values token rest stop w others written text =
     (stops_alike symbols values token rest others stop) refl in
     let same' : token ∷ others ≡ [] = ap (λ (x : State). x.tokens) same in cc
 
+-- where the machine stops at a token, that is the first that can't stand
 is_fault : Sound → Whole → (tokens : List Token) (symbols : List Symbol) (values : List Written) (token : Token) (rest : List Token)
     → Ends tokens → Reaches (start tokens) (at symbols values (token ∷ rest)) → step symbols values (token ∷ rest) ≡ None
     → IsFirstFault tokens (length tokens - length (token ∷ rest))
@@ -118,6 +120,7 @@ is_fault sound whole tokens symbols values token rest once reached stop = go (wa
           stops = rw and_next (no_further whole tokens symbols values token rest stop w);
         })
 
+-- the machine stops at the end of a source, or at the first token that can't stand
 pub first_fault : Sound → Whole → (tokens rest : List Token) (symbols : List Symbol) (values : List Written) → EndsOnce tokens
     → Reaches (start tokens) (at symbols values rest) → step symbols values rest ≡ None
     → ((symbols ≡ []) × (rest ≡ [])) ⊎ (IsFirstFault tokens (length tokens - length rest) × (0 < length rest))

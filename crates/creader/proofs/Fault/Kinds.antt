@@ -9,14 +9,17 @@ use Rattle.cgrammar.specs.declared.kind.Kind.{Kind}
 use Rattle.cgrammar.specs.declared.kind.Kind.TheVariants as kind
 use Rattle.cgrammar.specs.Terminal.{keyword_number, punctuator_number}
 
+-- the first of two that are true together
 pub and_left : (a b : Bool) → (a && b) ≡ true → a ≡ true
 and_left true b h = refl
 and_left false b h = h
 
+-- the second of them
 pub and_right : (a b : Bool) → (a && b) ≡ true → b ≡ true
 and_right true b h = h
 and_right false b h = cc
 
+-- it holds of each element, by computing
 abbrev pub every : {A : Type 0} → (A → Bool) → List A → Bool
 every p [] = true
 every p (x ∷ xs) = p x && every p xs
@@ -27,6 +30,7 @@ every_or p [] n other h o = o
 every_or p (x ∷ xs) zero other h o = and_left (p x) (every p xs) h
 every_or p (x ∷ xs) (suc n) other h o = every_or p xs n other (and_right (p x) (every p xs) h) o
 
+-- what holds of each element holds at each place
 pub every_at : {A : Type 0} (p : A → Bool) (x : A) (xs : List A) (n : ℕ) → every p (x ∷ xs) ≡ true → p (get_or (x ∷ xs) n x) ≡ true
 every_at p x xs n h = every_or p (x ∷ xs) n x h (and_left (p x) (every p xs) h)
 
@@ -53,11 +57,13 @@ later_punctuators =
 abbrev later_kinds : List Kind
 later_kinds = kind.RegisterName ∷ kind.LocationName ∷ kind.Number ∷ kind.Character ∷ kind.Literal ∷ kind.Standard ∷ kind.Uint32 ∷ kind.End ∷ []
 
+-- each keyword stands at its number
 keyword_there : (k : Keyword) → get_or (keyword.Attribute ∷ later_keywords) (keyword_number k) keyword.Attribute ≡ k
 unfolding keyword_number
 keyword_there keyword.Attribute = refl
 keyword_there _ = refl
 
+-- each punctuator stands at its number
 punctuator_there : (m : Punctuator) → get_or (punctuator.ShiftLeftAssign ∷ later_punctuators) (punctuator_number m) punctuator.ShiftLeftAssign ≡ m
 unfolding punctuator_number
 punctuator_there punctuator.ShiftLeftAssign = refl
@@ -69,6 +75,7 @@ every_kind p = every p (kind.Name ∷ later_kinds)
     && (every (λ k. p (kind.Keyword k)) (keyword.Attribute ∷ later_keywords)
     && every (λ m. p (kind.Punctuator m)) (punctuator.ShiftLeftAssign ∷ later_punctuators))
 
+-- what is computed for every kind holds of each
 pub every_kind_at : (p : Kind → Bool) → every_kind p ≡ true → (k : Kind) → p k ≡ true
 every_kind_at p h = at
   where

@@ -26,6 +26,7 @@ pub record Way (a b : State) : Type 0 where
   pub ahead : (token : Token) (tokens others : List Token) → b.tokens ≡ token ∷ tokens
       → Reaches (at a.symbols a.values (front ++ token ∷ others)) (at b.symbols b.values (token ∷ others))
 
+-- no step takes no token
 none_taken : (a : State) → Way a a
 none_taken a = record {
   front = [];
@@ -108,6 +109,7 @@ before_staying_rule p rule symbols values token tokens b chosen stays way =
           ahead = λ next_one rest others e. next (step_to first (front ++ next_one ∷ others) same) (ahead next_one rest others e);
         }
 
+-- one step more in front of a way
 before_step : (symbols : List Symbol) (values : List Written) (tokens : List Token) (m b : State) → step symbols values tokens ≡ Some m
     → Way m b → Way (at symbols values tokens) b
 unfolding step
@@ -127,6 +129,7 @@ before_step (symbol.Read p ∷ symbols) values (token ∷ tokens) m b e way =
     go rule move.Take is chosen way = before_taking_rule p rule symbols values token tokens b chosen is (rw is at way)
     go rule move.Stay is chosen way = before_staying_rule p rule symbols values token tokens b chosen is (rw is at way)
 
+-- steps take tokens from the front, and look at one more at most
 pub way : {a b : State} → Reaches a b → Way a b
 way {a} here = none_taken a
 way {a} {b} (next {b = m} e rest) = before_step a.symbols a.values a.tokens m b e (way rest)

@@ -35,6 +35,7 @@ ends_behind [] end is none = inl (is, refl)
 ends_behind (token ∷ body) end is none =
     inr (All-head (λ t. kind_of t ≢ kind.End) token body none, ends_behind body end is (All-tail (λ t. kind_of t ≢ kind.End) token body none))
 
+-- that the end token stands last and nowhere else, said token by token
 pub ends : (tokens : List Token) → EndsOnce tokens → Ends tokens
 ends tokens once = subst Ends (sym once.2) (ends_behind once.0 once.1 once.3 once.4)
 
@@ -54,6 +55,7 @@ pub data Standing (symbols : List Symbol) (tokens : List Token) : Type 0 where
   last : symbols ≡ symbol.Reduce make.Source ∷ [] → tokens ≡ [] → Standing symbols tokens
   over : symbols ≡ [] → tokens ≡ [] → Standing symbols tokens
 
+-- only the end token is accepted as the end
 end_kind : (k : Kind) → accepts terminal.End k ≡ true → k ≡ kind.End
 unfolding accepts
 end_kind kind.End h = refl
@@ -94,6 +96,7 @@ follow_rule p rule m upper values token tokens chosen is can spares once = go m 
     go move.Take is = record { upper = rule.symbols ++ upper; is = sym (append_assoc rule.symbols upper bottom); can_end = can_end; spares = spares'; ahead = behind is once }
     go move.Stay is = record { upper = rule.symbols ++ upper; is = sym (append_assoc rule.symbols upper bottom); can_end = can_end; spares = spares'; ahead = once }
 
+-- a step keeps what stands above the last two symbols able to end
 step_above : (upper : List Symbol) (values : List Written) (tokens : List Token) (b : State) → step (upper ++ bottom) values tokens ≡ Some b
     → completes upper kind.End ≡ true → spares_end upper ≡ true → Ends tokens → Standing b.symbols b.tokens
 unfolding step completes spares_end
@@ -117,6 +120,7 @@ step_above (symbol.Read p ∷ upper) values (token ∷ tokens) b e can spares on
     subst (λ x. Standing x.symbols x.tokens) found.is
     (above (follow_rule p found.rule found.rule.move upper values token tokens found.chosen refl can spares once))
 
+-- a step keeps the form of the symbols
 step_stands : (symbols : List Symbol) (values : List Written) (tokens : List Token) (b : State) → step symbols values tokens ≡ Some b
     → Standing symbols tokens → Standing b.symbols b.tokens
 unfolding step
@@ -126,6 +130,7 @@ step_stands symbols values tokens b e (last is empty) =
     subst (λ x. Standing x.symbols x.tokens) same (over refl empty)
 step_stands symbols values tokens b e (over is empty) = let e' = rw (is, step) at e in cc
 
+-- so do some steps
 pub stands : {a b : State} → Reaches a b → Standing a.symbols a.tokens → Standing b.symbols b.tokens
 stands here h = h
 stands {a} (next {b = m} e way) h = stands way (step_stands a.symbols a.values a.tokens m e h)

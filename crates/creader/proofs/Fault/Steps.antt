@@ -30,6 +30,7 @@ stopped (next e _) stop = cc
 pub one_end : {a b c : State} → Reaches a b → Reaches a c → Stops b → Stops c → b ≡ c
 one_end one other stop stop' = stopped (on_the_way one other stop') stop
 
+-- steps, and then more steps
 pub onwards : {a b c : State} → Reaches a b → Reaches b c → Reaches a c
 onwards here way = way
 onwards (next e one) way = next e (onwards one way)

@@ -32,12 +32,14 @@ read_by : (found : Option Rule) (part : Part) (kind : Kind) (symbols : List Symb
 read_by None part kind symbols h b chosen e = let other : progress.Stuck ≡ progress.Moved = ap (λ (x : Progress × Held). x.0) e in absurd (cc)
 read_by (Some rule) part kind symbols h b chosen e = moved_by rule rule.move part kind symbols h b refl chosen e
 
+-- taking a token is no step that leaves it
 take_by : (accepted : Bool) (symbols : List Symbol) (h b : Held) {P : Type 0}
     → ◌≡◌ {A = Progress × Held} (cond accepted (progress.Taken, taken (record h { symbols = symbols })) (progress.Stuck, record h { symbols = symbols }))
     (progress.Moved, b) → P
 take_by true symbols h b e = let other : progress.Taken ≡ progress.Moved = ap (λ (x : Progress × Held). x.0) e in absurd (cc)
 take_by false symbols h b e = let other : progress.Stuck ≡ progress.Moved = ap (λ (x : Progress × Held). x.0) e in absurd (cc)
 
+-- a step that takes no token leaves less weight, whatever the first symbol is
 lighter_at : (symbols : List Symbol) (kind : Kind) (h b : Held) → step_by symbols kind h ≡ (progress.Moved, b) → Lighter symbols h b
 unfolding weigh is_sure_symbol symbol_weight
 lighter_at [] kind h b e = let other : progress.Stuck ≡ progress.Moved = ap (λ (x : Progress × Held). x.0) e in absurd (cc)

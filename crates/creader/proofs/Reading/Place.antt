@@ -20,6 +20,7 @@ counted progress.Taken place = place + 1
 counted progress.Moved place = place
 counted progress.Stuck place = place
 
+-- what one step makes of the count of the taken tokens
 Counts : Held → Progress × Held → Type 0
 Counts before result = result.1.place ≡ counted result.0 before.place
 
@@ -38,6 +39,7 @@ unfolding Counts
 by-token true h = refl
 by-token false h = refl
 
+-- a step counts the token that it takes, and no other
 counts-at : (symbols : List Symbol) (kind : Kind) (h : Held) → Counts h (step_by symbols kind h)
 unfolding Counts
 counts-at [] kind h = refl
@@ -45,10 +47,12 @@ counts-at (symbol.Reduce production ∷ symbols) kind h = refl
 counts-at (symbol.Take terminal ∷ symbols) kind h = by-token (accepts terminal kind) (record h { symbols = symbols })
 counts-at (symbol.Read part ∷ symbols) kind h = by-rule (choose (rules part) kind) (record h { symbols = symbols })
 
+-- steps that take no token count none
 moves-place : {kind : Kind} {a b : Held} → Moves kind a b → b.place ≡ a.place
 moves-place specs.none = refl
 moves-place {kind = kind} (specs.more {b = b} {c = c} moves last) = (moved-lighter kind b c last).place ∙ moves-place moves
 
+-- a token that is fed counts as one
 pub fed-place : (kind : Kind) (a b : Held) → Feeds kind true a b → b.place ≡ a.place + 1
 unfolding Counts
 fed-place kind a b feeds =

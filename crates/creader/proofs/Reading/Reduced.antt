@@ -24,6 +24,7 @@ use Rattle.creader.proofs.Reading.Represents.{
   count-turned,
 }
 
+-- there is nothing at the end of a list
 past : (xs : List ℕ) (d : ℕ) → get_or xs (length xs) d ≡ d
 past [] d = refl
 past (x ∷ xs) d = past xs d
@@ -85,6 +86,7 @@ reduced-by h production parts values firsts entries-are place below =
       place = ends ∙ sym (one-width values production parts);
     }
 
+-- a production makes of the places what it makes of the values
 pub represents-reduced : (h : Held) (values : List Written) (production : Production) → Represents h values → Represents (reduced production h) (reduce production values)
 unfolding reduce count
 represents-reduced h values production r =

@@ -18,6 +18,7 @@ unfoldable pub firsts_of : ℕ → Forest → List ℕ
 firsts_of at none = []
 firsts_of at (more written parts) = at ∷ firsts_of (at + length (spell written)) parts
 
+-- how many tokens the trees are spelled with
 unfoldable pub width : Forest → ℕ
 width parts = length (spells parts)
 

@@ -16,6 +16,7 @@ use Rattle.creader.proofs.Reading.Represents.{Represents}
 use Rattle.creader.proofs.Reading.Reduced.{represents-reduced}
 use Rattle.creader.proofs.Reading.Simulated.{Simulated, simulated, with-symbols}
 
+-- steps, and then more steps
 pub reaches-on : {a b c : State} → Reaches a b → Reaches b c → Reaches a c
 reaches-on here second = second
 reaches-on (next step first) second = next step (reaches-on first second)
@@ -26,6 +27,7 @@ pub record Run (from : State) (h : Held) (tokens : List Token) : Type 0 where
   pub reaches : Reaches from (at h.symbols values tokens)
   pub represents : Represents h values
 
+-- the steps of the code that take no token are steps of the machine
 moves-run : (from : State) (token : Token) (tokens : List Token) {kind : Kind} {a b : Held} → kind_of token ≡ kind → Moves kind a b
     → Run from a (token ∷ tokens) → Run from b (token ∷ tokens)
 unfolding Simulated

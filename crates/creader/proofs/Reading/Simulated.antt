@@ -50,6 +50,7 @@ by-token true symbols h values token tokens r =
     (leaf token ∷ values, refl, represents-token (record h { symbols = symbols }) values token (with-symbols symbols h values r))
 by-token false symbols h values token tokens r = refl
 
+-- a step of the code is a step of the machine
 simulated-at : (symbols : List Symbol) (h : Held) (values : List Written) (token : Token) (tokens : List Token) → Represents h values
     → let r = specs.step_by symbols (kind_of token) h in Simulated r.0 r.1 token tokens (machine.step symbols values (token ∷ tokens))
 unfolding Simulated machine.step

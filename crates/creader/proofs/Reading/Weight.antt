@@ -195,6 +195,7 @@ is_sure part.ParameterEnd = false
 is_sure part.ParameterLength = true
 is_sure part.MoreParameters = false
 
+-- it surely takes a token
 unfoldable pub is_sure_symbol : Symbol → Bool
 is_sure_symbol (symbol.Take _) = true
 is_sure_symbol (symbol.Read part) = is_sure part
@@ -205,10 +206,12 @@ symbol_weight (symbol.Take _) = 1
 symbol_weight (symbol.Read part) = weight part
 symbol_weight (symbol.Reduce _) = 1
 
+-- the weight up to the first symbol that surely takes a token
 unfoldable pub weigh : List Symbol → ℕ
 weigh [] = 0
 weigh (symbol ∷ symbols) = if is_sure_symbol symbol then symbol_weight symbol else symbol_weight symbol + weigh symbols
 
+-- is there one?
 unfoldable stops : List Symbol → Bool
 stops [] = false
 stops (symbol ∷ symbols) = is_sure_symbol symbol || stops symbols
@@ -221,6 +224,7 @@ is_take move.Stay = false
 unfoldable is_light : Part → Rule → Bool
 is_light part rule = is_take rule.move || (nat_lt (weigh rule.symbols) (weight part) && (not (is_sure part) || stops rule.symbols))
 
+-- each rule is, by computing
 all_light : (part : Part) → list_all (is_light part) (rules part) ≡ true
 unfolding weight is_sure is_sure_symbol symbol_weight weigh stops is_take is_light rules chain_rules chain_tail_rules words_rules
 all_light part.Expression = refl
@@ -312,10 +316,12 @@ all_light part.ParameterEnd = refl
 all_light part.ParameterLength = refl
 all_light part.MoreParameters = refl
 
+-- both of two are true
 both : (a b : Bool) → (a && b) ≡ true → (a ≡ true) × (b ≡ true)
 both true b h = (refl, h)
 both false b h = absurd (cc)
 
+-- where the first of two is false, the second is true
 either : (a b : Bool) → (a || b) ≡ true → a ≡ false → b ≡ true
 either true b h e = absurd (cc)
 either false b h e = h
@@ -341,6 +347,7 @@ weigh_append_by true stop first front all rest h = refl
 weigh_append_by false true first front all rest h = ap (λ n. first + n) h
 weigh_append_by false false first front all rest h = omega (arith, h)
 
+-- the weight of symbols in front of others
 weigh_append : (front symbols : List Symbol) → weigh (front ++ symbols) ≡ cond (stops front) (weigh front) (weigh front + weigh symbols)
 unfolding weigh stops
 weigh_append [] symbols = sym (zero-add (weigh symbols))

@@ -58,6 +58,7 @@ free-Calm (symbol.Reduce p ∷ symbols) tokens f =
 free-Calm (symbol.Take _ ∷ symbols) tokens f = f
 free-Calm (symbol.Read _ ∷ symbols) tokens f = f
 
+-- free symbols in front of free ones are free
 free-append : (first others : List Symbol) → free first ≡ true → free others ≡ true → free (first ++ others) ≡ true
 unfolding free
 free-append [] others f g = g
@@ -76,6 +77,7 @@ all_free : Part → Bool
 unfolding rules chain_rules chain_tail_rules words_rules free may_end_if
 all_free p = may_end_if p || list_all (λ r. free r.symbols) (rules p)
 
+-- computed for each part
 each-free : (p : Part) → all_free p ≡ true
 unfolding all_free
 each-free part.Expression = refl
@@ -140,6 +142,7 @@ else-calm kind rule e = elim (two-chosen (accepts (terminal.Keyword keyword.Else
   | inr k ↦ subst (λ r. CalmRule kind r.move r.symbols) k.1 (inr (refl, refl, k.0))
 ]
 
+-- no other part can end an if that has no else
 only-else : (p : Part) → may_end_if p ≡ true → p ≡ part.OptionalElse
 unfolding may_end_if
 only-else part.OptionalElse h = refl
@@ -153,6 +156,7 @@ rule-calm p kind rule e = elim (or_cases (may_end_if p) (list_all (λ r. free r.
   | inr f ↦ inl (choose-passes (λ r. free r.symbols) (rules p) kind rule f e).0
 ]
 
+-- a token that is taken does not stay
 taken_stays : move.Take ≡ move.Stay → ⊥
 taken_stays e = cc
 
@@ -228,6 +232,7 @@ step-keeps (symbol.Read p ∷ symbols) values [] tokens b e k = absurd (none-som
 step-keeps (symbol.Read p ∷ symbols) values (token ∷ left) tokens b e k =
     read-keeps p symbols values token left tokens b (choose (rules p) (kind_of token)) refl e k
 
+-- what a step keeps, all steps keep
 reaches-keeps : {a b : State} (tokens : List Token) → Reaches a b → Kept tokens a → Kept tokens b
 reaches-keeps tokens here k = k
 reaches-keeps tokens (next {a} {b} {c} e r) k = reaches-keeps tokens r (step-keeps a.symbols a.values a.tokens tokens b e k)
@@ -236,6 +241,7 @@ reaches-keeps tokens (next {a} {b} {c} e r) k = reaches-keeps tokens r (step-kee
 starts : Good (start []).symbols []
 starts = run (start []).symbols class.source [] [] [] start-types (λ written s i. (written, refl, s, i))
 
+-- it holds at the beginning of a source
 starts-kept : (tokens : List Token) → Kept tokens (start tokens)
 unfolding free
 starts-kept tokens = record { good = starts; calm = refl; clear = tt; spelt = refl }

@@ -49,6 +49,7 @@ Upon-map [] P Q f values u = f values u
 Upon-map (sort ∷ sorts) P Q f [] u = absurd u
 Upon-map (sort ∷ sorts) P Q f (value ∷ values) u = (u.0, u.1, Upon-map sorts P Q f values u.2)
 
+-- a condition that gives something is true
 pub if_some : {A : Type 0} (b : Bool) (o : Option A) (x : A) → (if b then o else None) ≡ Some x → (b ≡ true) × (o ≡ Some x)
 if_some true o x e = (refl, e)
 if_some false o x e = absurd (none-some x e)
@@ -74,10 +75,12 @@ unfolding turned
 turned-turned [] others last = refl
 turned-turned (piece ∷ pieces) others last = turned-turned pieces (piece ∷ others) last
 
+-- turned twice, pieces are as they were
 turned_back : (pieces : List Piece) → turned (turned pieces []) [] ≡ pieces
 unfolding turned
 turned_back pieces = turned-turned pieces [] [] ∙ append-nil pieces
 
+-- turning loses none
 length-turned : (pieces others : List Piece) → length (turned pieces others) ≡ length pieces + length others
 unfolding turned
 length-turned [] others = omega arith

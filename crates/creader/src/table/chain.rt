@@ -1,4 +1,5 @@
-//! Rules of operators between two operands.
+//! Rules of operators between two operands: each level's operands are of the next one, and the tail goes on with what has
+//! been read, so that operators of a level associate to the left.
 use crate::part::Symbol::{Read, Reduce};
 use crate::part::{Move, Part, Rule};
 use cgrammar::{Level, Production, Terminal};

@@ -37,6 +37,7 @@ pub const ASSIGNMENT: [Rule; 2] = [
     ),
 ];
 
+/// A unary expression is assigned to, or is the first operand of operators of each level, the tightest first.
 pub const ASSIGNMENT_TAIL: [Rule; 12] = [
     (
         &[Terminal::Punctuator(Punctuator::Assign)],
@@ -142,6 +143,7 @@ pub const ASSIGNMENT_TAIL: [Rule; 12] = [
     ),
 ];
 
+/// A cast is not assigned to; an expression in parentheses may be.
 pub const ASSIGNMENT_PARENTHESIS: [Rule; 2] = [
     (
         TYPE_STARTS,
@@ -331,6 +333,7 @@ pub const AFTER_NAME: [Rule; 2] = [
     ),
 ];
 
+/// As `POSTFIX_TAIL`, but for the call, which `AFTER_NAME` reads.
 pub const NAME_TAIL: [Rule; 6] = [
     (
         &[Terminal::Punctuator(Punctuator::LeftBracket)],

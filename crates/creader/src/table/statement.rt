@@ -115,6 +115,7 @@ pub const STATEMENT: [Rule; 10] = [
     ),
 ];
 
+/// The nearest `if` takes the `else`.
 pub const OPTIONAL_ELSE: [Rule; 2] = [
     (
         &[Terminal::Keyword(Keyword::Else)],

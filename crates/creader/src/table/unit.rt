@@ -50,6 +50,7 @@ pub const UNIT: [Rule; 3] = [
     ),
 ];
 
+/// `volatile` begins a register's declaration or a type.
 pub const AFTER_VOLATILE: [Rule; 2] = [
     (
         &[Terminal::Keyword(Keyword::Register)],
@@ -92,6 +93,7 @@ pub const REGISTER_TYPE: [Rule; 2] = [
     ),
 ];
 
+/// `struct` and a tag begin a struct's definition or a type.
 pub const AFTER_TAG: [Rule; 2] = [
     (
         &[Terminal::Punctuator(Punctuator::LeftBrace)],
@@ -184,6 +186,7 @@ pub const PARAMETERS: [Rule; 3] = [
     ),
 ];
 
+/// `void` alone stands for no parameters, and else begins the first parameter's type.
 pub const AFTER_VOID: [Rule; 2] = [
     (
         &[Terminal::Punctuator(Punctuator::RightParenthesis)],
@@ -228,6 +231,7 @@ pub const PARAMETER_TAIL: [Rule; 2] = [
     ),
 ];
 
+/// Where the pointers have no qualifiers, the first length may be left out.
 pub const PARAMETER_AFTER_STAR: [Rule; 2] = [
     (
         &[Terminal::Qualifier],
