@@ -1,8 +1,19 @@
-pub mod Ascending
+mod Answered
+mod Ascending
+mod BareLevels
 mod Built
+mod Classes
+mod Deepest
+mod Made
+mod MadeLevels
 mod Pass
+mod Picked
+mod Readings
+mod Shallow
+mod Shape
 mod Step
 mod StepMade
+mod Total
 mod Turns
 mod Walk
 mod Within

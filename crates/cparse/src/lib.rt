@@ -6,8 +6,8 @@ mod laws;
 mod levels;
 mod make;
 mod parser;
+mod parts;
 mod value;
 
-pub use laws::one_first_deep;
+pub use laws::{one_first_deep, one_reading};
 pub use parser::parse;
-pub use value::Value;

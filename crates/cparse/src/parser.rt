@@ -11,7 +11,7 @@ use crate::build::build;
 use crate::levels::first_deep;
 use crate::value::Value;
 use cgrammar::Kind;
-use creader::{ReadFault, read_entries};
+use creader::{ReadFault, one_text, read_entries};
 use csyn::{Cause, SourceFault, Token, Tree, Units};
 use std::alloc::Global;
 
@@ -51,6 +51,8 @@ pub fn parse(alloc: Global, tokens: &[Token]) -> Result<Tree, SourceFault>
     ensures broken { IfErr result (parsed.IsFaultOf tokens.now) }
     ensures named { (span : Span) (cause : Cause) → parsed.IsFault tokens.now span cause → parsed.AnswersFault span cause result }
 {
+    // The law that the tokens are spelled by one tree of productions at most.
+    one_text();
     let entries = match read_entries(alloc, tokens) {
         Ok(entries) => entries,
         Err(ReadFault::Token(place)) => {
