@@ -38,13 +38,14 @@ token-at tokens place token within e = record { token = token; stands = gotten t
 -- a token that can't stand
 module _ (tokens : List Token) (place : ℕ) (token : Token) (kind : Kind) (cause : Cause) (first : IsFirstFault tokens place)
     (is : token ≡ get_or tokens place token) (same : kind ≡ kind_of token) (why : cause ≡ kind_cause kind) where
-
   pub refused-fault : IsFault tokens token.span cause
   unfolding token-at
   refused-fault = unreadable record {
-      place = place; is_first = first; at = token-at tokens place token first.within is;
-      why = why ∙ ap kind_cause same;
-    }
+    place = place;
+    is_first = first;
+    at = token-at tokens place token first.within is;
+    why = why ∙ ap kind_cause same;
+  }
 
   pub refused-tree : (t : Contents) → Yields t tokens → ⊥
   refused-tree t yields = text-stands tokens yields.written place yields.text first
@@ -79,18 +80,21 @@ units-by (Some v) all bare makes units-of =
 
 -- a source
 module _ (tokens : List Token) (written : Written) (text : IsText written tokens) (only : (other : Written) → IsText other tokens → other ≡ written) where
-
   one : (a b : Written) → IsText a tokens → IsText b tokens → a ≡ b
   one a b first second = only a first ∙ sym (only b second)
 
   -- with a node too deep
   module _ (place : ℕ) (token : Token) (found : slice_get (deep 0 0 written) 0 ≡ Some place) (within : place < length tokens)
       (is : token ≡ get_or tokens place token) where
-
     pub deep-fault : IsFault tokens token.span G3
     deep-fault = too_deep record {
-        written = written; text = text; place = place; is_first = found-is-least written place found; at = token-at tokens place token within is; why = refl;
-      }
+      written = written;
+      text = text;
+      place = place;
+      is_first = found-is-least written place found;
+      at = token-at tokens place token within is;
+      why = refl;
+    }
 
     pub deep-tree : (t : Contents) → Yields t tokens → ⊥
     deep-tree t yields = no-tree tokens one token.span G3 t deep-fault yields
@@ -103,20 +107,21 @@ module _ (tokens : List Token) (written : Written) (text : IsText written tokens
       (shallow : slice_get (deep 0 0 written) 0 ≡ None)
       (has : tree.value 0 written ≡ Some (value.Units bare)) (makes : option_map bare_value made ≡ Some (value.Units bare)) (counts : count ≡ nodes written)
       (units-of : (u : units.Units) → made ≡ Some (value.Units u) → all ≡ u) (several : last + 1 ≡ length tokens) (is : end_token ≡ get_or tokens last end_token) where
-
     pub bare-all : bare_units all ≡ bare
     bare-all = units-by made all bare makes units-of
 
     pub yields-tree : (t : Contents) → t.units ≡ all → t.tokens ≡ last → t.nodes ≡ count → t.end ≡ end_token.span → Yields t tokens
     yields-tree t u n m e = record {
-        written = written; text = text; shallow = none-is-deep written shallow;
-        units = has ∙ ap (λ x. Some (value.Units x)) (sym bare-all ∙ ap bare_units (sym u));
-        nodes_count = m ∙ counts;
-        tokens_count = ap (λ k. k + 1) n ∙ several;
-        end_token = end_token;
-        is_last = ap (slice_get tokens) n ∙ gotten tokens last end_token (omega (arith, several)) is;
-        ends = e;
-      }
+      written = written;
+      text = text;
+      shallow = none-is-deep written shallow;
+      units = has ∙ ap (λ x. Some (value.Units x)) (sym bare-all ∙ ap bare_units (sym u));
+      nodes_count = m ∙ counts;
+      tokens_count = ap (λ k. k + 1) n ∙ several;
+      end_token = end_token;
+      is_last = ap (slice_get tokens) n ∙ gotten tokens last end_token (omega (arith, several)) is;
+      ends = e;
+    }
 
     pub tree-answered : (t other : Contents) → Yields t tokens → Yields other tokens → Same t other
     tree-answered t other mine theirs = trees-agree tokens one t other mine theirs

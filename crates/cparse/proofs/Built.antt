@@ -1,6 +1,38 @@
 -- The productions of a source, one after another, make its value.
-use Rattle.std.proofs.Common.{◌≡◌, ◌+◌, ◌-◌, ◌≤◌, ℕ, Bool, true, false, List, [], ◌∷◌, ◌++◌, map, reverse, take, drop, length, Option, Some, None, sym, ap, subst, refl, ◌∙◌, cond, arith, append_assoc,
-    length-append, add_assoc, add-zero, zero-add}
+use Rattle.std.proofs.Common.{
+  ◌≡◌,
+  ◌+◌,
+  ◌-◌,
+  ◌≤◌,
+  ℕ,
+  Bool,
+  true,
+  false,
+  List,
+  [],
+  ◌∷◌,
+  ◌++◌,
+  map,
+  reverse,
+  take,
+  drop,
+  length,
+  Option,
+  Some,
+  None,
+  sym,
+  ap,
+  subst,
+  refl,
+  ◌∙◌,
+  cond,
+  arith,
+  append_assoc,
+  length-append,
+  add_assoc,
+  add-zero,
+  zero-add,
+}
 use Rattle.std.proofs.lemmas.List.{append-nil, length-reverse}
 use Rattle.std.proofs.Math.Numerals.{add-one}
 use Rattle.std.proofs.Math.Seq.{take-append_seam}
@@ -65,7 +97,7 @@ built-one : (tokens : List Token) (entry : Entry) (n : ℕ) (us vs : List Value)
     → build_one tokens (built (reverse_aux us vs) n) entry ≡ Some (built (v ∷ vs) (n + cond (is_node entry.production) 1 0))
 built-one tokens entry n us vs v count makes =
     let parts : reverse (take (parts_among (template entry.production)) (reverse_aux us vs)) ≡ us =
-        ap (λ k. reverse (take k (reverse_aux us vs))) (sym count) ∙ taken us vs in
+    ap (λ k. reverse (take k (reverse_aux us vs))) (sym count) ∙ taken us vs in
     let rest : drop (parts_among (template entry.production)) (reverse_aux us vs) ≡ vs = ap (λ k. drop k (reverse_aux us vs)) (sym count) ∙ left us vs in
     ap (λ xs. with_value (make entry.production (place_in tokens n entry) xs) (built (reverse_aux us vs) n) entry) parts
     ∙ ap (λ m. with_value m (built (reverse_aux us vs) n) entry) makes
@@ -89,7 +121,7 @@ unfolding Match IsProper values value nodes nodes_of entries entries_of parts_am
 build-parts tokens [] none before behind n us proper spelled e =
     let same : [] ≡ us = cc in
     subst (λ xs. Builds tokens [] (length before) none n xs) same
-        record { count = refl; builds = λ vs es. ap (λ m. build tokens es (built vs m)) (sym (add-zero n)) }
+    record { count = refl; builds = λ vs es. ap (λ m. build tokens es (built vs m)) (sym (add-zero n)) }
 build-parts tokens [] (more _ parts) before behind n us proper spelled e = elim proper [ ]
 build-parts tokens (token terminal ∷ pieces) none before behind n us proper spelled e = elim proper [ ]
 build-parts tokens (part class ∷ pieces) none before behind n us proper spelled e = elim proper [ ]
@@ -107,15 +139,15 @@ build-parts tokens (part class ∷ pieces) (more (node production own) parts) be
     let front = front-of (value n (node production own)) (values (n + own-nodes) parts) us e in
     let making = made-of production (place_of (n + nodes_of own) (spells own)) (values n own) front.value front.is-first in
     let spelled' : tokens ≡ before ++ (spells own ++ (spells parts ++ behind)) =
-        spelled ∙ ap (λ xs. before ++ xs) (append_assoc (spells own) (spells parts) behind) in
+    spelled ∙ ap (λ xs. before ++ xs) (append_assoc (spells own) (spells parts) behind) in
     let inner = build-parts tokens (template production) own before (spells parts ++ behind) n making.0 proper.1 spelled' making.1 in
     let rest = build-parts tokens pieces parts (before ++ spells own) behind (n + own-nodes) front.values proper.3
-        (spelled' ∙ sym (append_assoc before (spells own) (spells parts ++ behind))) front.are-others in
+    (spelled' ∙ sym (append_assoc before (spells own) (spells parts ++ behind))) front.are-others in
     let entry : Entry = record { production = production; first = length before; end = length before + length (spells own) } in
     let slice : slice_range tokens (length before) (length before + length (spells own)) ≡ spells own =
-        ap (λ ts. slice_range ts (length before) (length before + length (spells own))) spelled' ∙ own-tokens before (spells own) (spells parts ++ behind) in
+    ap (λ ts. slice_range ts (length before) (length before + length (spells own))) spelled' ∙ own-tokens before (spells own) (spells parts ++ behind) in
     let makes : make production (place_in tokens (n + nodes_of own) entry) making.0 ≡ Some front.value =
-        ap (λ ts. make production (place_of (n + nodes_of own) ts) making.0) slice ∙ making.2 in
+    ap (λ ts. make production (place_of (n + nodes_of own) ts) making.0) slice ∙ making.2 in
     subst (λ all. Builds tokens (part class ∷ pieces) (length before) (more (node production own) parts) n all) (sym front.are-all)
     record {
       count = sym (add-one (length front.values)) ∙ ap (λ k. k + 1) rest.count;
@@ -125,7 +157,7 @@ build-parts tokens (part class ∷ pieces) (more (node production own) parts) be
           ap (λ xs. build tokens xs (built vs n)) (regroup (entries_of (length before) own) entry later es)
           ∙ inner.builds vs (entry ∷ (later ++ es))
           ∙ build-append tokens entry (later ++ es) (built (reverse_aux making.0 vs) (n + nodes_of own)) middle
-              (built-one tokens entry (n + nodes_of own) making.0 vs front.value inner.count makes)
+          (built-one tokens entry (n + nodes_of own) making.0 vs front.value inner.count makes)
           ∙ ap (λ a. build tokens (entries_of a parts ++ es) middle) (sym (length-append before (spells own)))
           ∙ ap (λ m. build tokens (entries_of (length (before ++ spells own)) parts ++ es) (built (front.value ∷ vs) m)) (add_assoc n (nodes_of own) (cond (is_node production) 1 0))
           ∙ rest.builds (front.value ∷ vs) es
@@ -139,8 +171,8 @@ unfolding Match values value nodes nodes_of entries entries_of parts_among begin
 whole-built tokens (leaf t) v text e = elim (text.is_source) [ ]
 whole-built tokens (node production own) v text e =
     let all = build-parts tokens (part source ∷ []) (more (node production own) none) [] [] 0 (v ∷ [])
-        (text.is_source, text.proper, λ h. absurd (cc), tt)
-        (sym text.spelled ∙ sym (append-nil (spells own)) ∙ sym (append-nil (spells own ++ []))) (ap (λ o. in_front o (Some [])) e) in
+    (text.is_source, text.proper, λ h. absurd (cc), tt)
+    (sym text.spelled ∙ sym (append-nil (spells own)) ∙ sym (append-nil (spells own ++ []))) (ap (λ o. in_front o (Some [])) e) in
     ap (λ es. build tokens es (built [] 0)) (sym (append-nil (entries 0 (node production own))) ∙ sym (append-nil (entries 0 (node production own) ++ [])))
     ∙ all.builds [] []
     ∙ ap (λ m. Some (built (v ∷ []) m)) (omega arith)

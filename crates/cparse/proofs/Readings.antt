@@ -40,7 +40,7 @@ not-before tokens a b first second less =
     let front = take-more tokens (a + 1) b (omega arith) in
     let some = second.goes_on in
     first.stops (take (b - (a + 1)) (drop (a + 1) tokens) ++ some.0) some.1
-        (subst (IsText some.1) (ap (λ xs. xs ++ some.0) front ∙ append_assoc (take (a + 1) tokens) (take (b - (a + 1)) (drop (a + 1) tokens)) some.0) some.2)
+    (subst (IsText some.1) (ap (λ xs. xs ++ some.0) front ∙ append_assoc (take (a + 1) tokens) (take (b - (a + 1)) (drop (a + 1) tokens)) some.0) some.2)
 
 one-by : (tokens : List Token) (a b : ℕ) → IsFirstFault tokens a → IsFirstFault tokens b → (a ≡ b) ⊎ ((a < b) ⊎ (b < a)) → a ≡ b
 one-by tokens a b first second (inl same) = same
@@ -61,7 +61,6 @@ one-at tokens a b s t first second same =
 
 -- what one written source of these tokens gives
 module _ (tokens : List Token) (one : (a b : Written) → IsText a tokens → IsText b tokens → a ≡ b) where
-
   pub faults-agree : (s t : Span) (c d : Cause) → IsFault tokens s c → IsFault tokens t d → (s ≡ t) × (c ≡ d)
   faults-agree s t c d (unreadable a) (unreadable b) =
       let at = one-at tokens a.place b.place s t a.at b.at (one-place tokens a.place b.place a.is_first b.is_first) in
@@ -86,7 +85,7 @@ module _ (tokens : List Token) (one : (a b : Written) → IsText a tokens → Is
   trees-agree a b first second =
       let written = one first.written second.written first.text second.text in
       let units : Some (Units (bare_units a.units)) ≡ Some (Units (bare_units b.units)) =
-          sym first.units ∙ ap (value 0) written ∙ second.units in
+      sym first.units ∙ ap (value 0) written ∙ second.units in
       let count : a.tokens ≡ b.tokens = omega (arith, first.tokens_count, second.tokens_count) in
       let last : Some first.end_token ≡ Some second.end_token = sym first.is_last ∙ ap (slice_get tokens) count ∙ second.is_last in
       let token : first.end_token ≡ second.end_token = cc in

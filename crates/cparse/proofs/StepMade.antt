@@ -22,7 +22,6 @@ map-reverse f xs = map-reverse-onto f xs []
 module _ (tokens : List Token) (values : List Value) (nodes : ℕ) (entry : Entry) (count : ℕ) (parts : List Value) (made : Option Value)
     (all : count ≡ parts_among (template entry.production)) (are : parts ≡ reverse (take count values))
     (makes : option_map bare_value made ≡ make entry.production (place_in tokens nodes entry) (bare_values parts)) where
-
   bare-parts : reverse (take (parts_among (template entry.production)) (bare_values values)) ≡ bare_values parts
   bare-parts =
       ap (λ n. reverse (take n (bare_values values))) (sym all)

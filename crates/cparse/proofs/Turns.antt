@@ -54,9 +54,9 @@ pub never-stuck : (tokens : List Token) (es : List Entry) (i : ℕ) (e : Entry) 
     → es ≡ entries 0 written → value 0 written ≡ Some v → ⊥
 never-stuck tokens es i e before written v is within one same text all has =
     let none : build tokens (drop i es) before ≡ None =
-        ap (λ xs. build tokens xs before) (next-entry es i e is within) ∙ ap (λ o. option_and_then (build tokens (drop (i + 1) es)) o) one in
+    ap (λ xs. build tokens xs before) (next-entry es i e is within) ∙ ap (λ o. option_and_then (build tokens (drop (i + 1) es)) o) one in
     let some : build tokens es (built [] 0) ≡ Some (built (v ∷ []) (nodes written)) =
-        ap (λ xs. build tokens xs (built [] 0)) all ∙ whole-built tokens written v text has in
+    ap (λ xs. build tokens xs (built [] 0)) all ∙ whole-built tokens written v text has in
     let other : None ≡ Some (built (v ∷ []) (nodes written)) = sym none ∙ same ∙ some in
     absurd (cc)
 
@@ -67,7 +67,7 @@ pub at-end : (tokens : List Token) (es : List Entry) (i : ℕ) (last : Built) (w
 at-end tokens es i last written v over same text all has =
     let done : build tokens (drop i es) last ≡ Some last = ap (λ xs. build tokens xs last) (drop_all i es over) in
     let some : build tokens es (built [] 0) ≡ Some (built (v ∷ []) (nodes written)) =
-        ap (λ xs. build tokens xs (built [] 0)) all ∙ whole-built tokens written v text has in
+    ap (λ xs. build tokens xs (built [] 0)) all ∙ whole-built tokens written v text has in
     let same' : Some last ≡ Some (built (v ∷ []) (nodes written)) = sym done ∙ same ∙ some in
     cc
 

@@ -31,10 +31,10 @@ each-of last at (more (leaf t) parts) h = each-of last (at + 1) parts (omega ari
 each-of last at (more (node production own) parts) h =
     let all = length-append (spells own) (spells parts) in
     each-append last (entries_of at own ++ record { production = production; first = at; end = at + length (spells own) } ∷ [])
-        (entries_of (at + length (spells own)) parts)
-        (each-append last (entries_of at own) (record { production = production; first = at; end = at + length (spells own) } ∷ [])
-            (each-of last at own (omega arith)) (record { order = omega arith; within = omega arith }, tt))
-        (each-of last (at + length (spells own)) parts (omega arith))
+    (entries_of (at + length (spells own)) parts)
+    (each-append last (entries_of at own) (record { production = production; first = at; end = at + length (spells own) } ∷ [])
+    (each-of last at own (omega arith)) (record { order = omega arith; within = omega arith }, tt))
+    (each-of last (at + length (spells own)) parts (omega arith))
 
 -- each production of a written source
 pub lies-at : (written : Written) (i : ℕ) (d : Entry) → i < length (entries 0 written) → Lies (length (spell written)) (get_or (entries 0 written) i d)
@@ -42,5 +42,5 @@ unfolding entries entries_of Each
 lies-at (leaf t) i d h = absurd (omega arith)
 lies-at (node production own) i d h =
     each-at (length (spells own)) (entries 0 (node production own)) i d
-        (each-append (length (spells own)) (entries_of 0 own) (record { production = production; first = 0; end = 0 + length (spells own) } ∷ [])
-            (each-of (length (spells own)) 0 own (omega arith)) (record { order = omega arith; within = omega arith }, tt)) h
+    (each-append (length (spells own)) (entries_of 0 own) (record { production = production; first = 0; end = 0 + length (spells own) } ∷ [])
+    (each-of (length (spells own)) 0 own (omega arith)) (record { order = omega arith; within = omega arith }, tt)) h

@@ -9,8 +9,6 @@ ghost use Rattle.cparse.specs.Nodes.{nodes};
 ghost use Rattle.cparse.specs.Tree.{value as value_of};
 ghost use Rattle.cparse.specs.Value.{bare_value};
 
-
-
 use crate::make::make;
 use crate::value::Value;
 use creader::Entry;
@@ -19,7 +17,11 @@ use std::alloc::{AllocError, Global};
 use std::collections::LinkedList;
 
 /// Takes the last values off the stack, in order.
-fn take_parts(alloc: Global, values: &mut LinkedList<Value>, count: usize) -> Result<LinkedList<Value>, AllocError>
+fn take_parts(
+    alloc: Global,
+    values: &mut LinkedList<Value>,
+    count: usize,
+) -> Result<LinkedList<Value>, AllocError>
     ensures parts { IfOk result (λ parts. parts ≡ reverse (take count values.old)) }
     ensures left { IfOk result (λ _. values.new ≡ drop count values.old) }
 {
@@ -66,7 +68,11 @@ impl Builder {
 }
 
 /// The value of a source, of which these are the productions, and how many nodes it has.
-pub fn build(alloc: Global, tokens: &[Token], entries: &[Entry]) -> Result<(Option<Value>, u32), AllocError>
+pub fn build(
+    alloc: Global,
+    tokens: &[Token],
+    entries: &[Entry],
+) -> Result<(Option<Value>, u32), AllocError>
     requires source { (written : Written) × IsText written tokens.now × (entries.now ≡ entries_at 0 written) }
     requires short { length tokens.now < 2 ^ 31 }
     requires few { length entries.now < 2 ^ 31 }

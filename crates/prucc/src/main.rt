@@ -7,10 +7,13 @@ pub mod machine;
 mod name;
 mod request;
 mod run;
+mod source;
 mod status;
 mod summary;
 #[cfg(test)]
 mod tests;
+#[cfg(test)]
+mod tree_tests;
 mod top;
 
 use fileset::{HostFiles, HostSink};

@@ -37,36 +37,36 @@ refused-first c = subst (IsFaultOf c.args.tokens.now) c.in-Err-Token.field-0-is 
 pub returns-in-Err-Token-clause-broken : goal.returns-in-Err-Token-clause-broken
 returns-in-Err-Token-clause-broken c =
     answered.refused-fault c.args.tokens.now c.in-Err-Token.place c.index-tokens-place.result c.of.result c.kind_cause-cause.result
-        (refused-first c) (refused-is c) c.of.ensures c.kind_cause-cause.ensures
+    (refused-first c) (refused-is c) c.of.ensures c.kind_cause-cause.ensures
 
 pub returns-in-Err-Token-clause-read : goal.returns-in-Err-Token-clause-read
 returns-in-Err-Token-clause-read c =
     answered.refused-tree c.args.tokens.now c.in-Err-Token.place c.index-tokens-place.result c.of.result c.kind_cause-cause.result
-        (refused-first c) (refused-is c) c.of.ensures c.kind_cause-cause.ensures
+    (refused-first c) (refused-is c) c.of.ensures c.kind_cause-cause.ensures
 
 pub returns-in-Err-Token-clause-named : goal.returns-in-Err-Token-clause-named
 returns-in-Err-Token-clause-named c =
     answered.refused-others c.args.tokens.now c.in-Err-Token.place c.index-tokens-place.result c.of.result c.kind_cause-cause.result
-        (refused-first c) (refused-is c) c.of.ensures c.kind_cause-cause.ensures
+    (refused-first c) (refused-is c) c.of.ensures c.kind_cause-cause.ensures
 
 pub bounds-tokens-place-in-Some : goal.bounds-tokens-place-in-Some
 bounds-tokens-place-in-Some c =
     let source = c.in-Ok.ensures.entries in
     answered.deep-place c.args.tokens.now source.0 c.in-Ok.entries.items c.deref.result.now c.in_ok-place.field-0 c.in-Some.place source.1 source.2
-        c.deref.ensures.value c.in_ok-place.ensures c.in-Some.is
+    c.deref.ensures.value c.in_ok-place.ensures c.in-Some.is
 
 pub bounds-tokens-place-in-Some-2 : goal.bounds-tokens-place-in-Some-2
 bounds-tokens-place-in-Some-2 c =
     let source = c.in-Ok.ensures.entries in
     answered.deep-place c.args.tokens.now source.0 c.in-Ok.entries.items c.deref.result.now c.in_ok-place.field-0 c.in-Some.place source.1 source.2
-        c.deref.ensures.value c.in_ok-place.ensures c.in-Some.is
+    c.deref.ensures.value c.in_ok-place.ensures c.in-Some.is
 
 pub offset_bounds-tokens-place-in-Some : goal.offset_bounds-tokens-place-in-Some
 offset_bounds-tokens-place-in-Some c =
     let source = c.in-Ok.ensures.entries in
     let within : c.in-Some.place < length c.args.tokens.now =
-        answered.deep-place c.args.tokens.now source.0 c.in-Ok.entries.items c.deref.result.now c.in_ok-place.field-0 c.in-Some.place source.1 source.2
-            c.deref.ensures.value c.in_ok-place.ensures c.in-Some.is in
+    answered.deep-place c.args.tokens.now source.0 c.in-Ok.entries.items c.deref.result.now c.in_ok-place.field-0 c.in-Some.place source.1 source.2
+    c.deref.ensures.value c.in_ok-place.ensures c.in-Some.is in
     omega (arith, within, c.requires.few)
 
 -- a node too deep
@@ -90,19 +90,19 @@ module _ (c : goal.After-drop-entries-in-Some) where
 pub returns-in-Some-clause-broken : goal.returns-in-Some-clause-broken
 returns-in-Some-clause-broken c =
     subst (λ (t : Token). IsFault c.args.tokens.now t.span G3) c.index-tokens-place-in-Some.is
-        (answered.deep-fault c.args.tokens.now (written c) c.in-Ok.ensures.entries.1 (only c) c.in-Some.place c.index-tokens-place-in-Some.result
-            (found c) (within c) c.index-tokens-place-in-Some.is)
+    (answered.deep-fault c.args.tokens.now (written c) c.in-Ok.ensures.entries.1 (only c) c.in-Some.place c.index-tokens-place-in-Some.result
+    (found c) (within c) c.index-tokens-place-in-Some.is)
 
 pub returns-in-Some-clause-read : goal.returns-in-Some-clause-read
 returns-in-Some-clause-read c =
     answered.deep-tree c.args.tokens.now (written c) c.in-Ok.ensures.entries.1 (only c) c.in-Some.place c.index-tokens-place-in-Some.result
-        (found c) (within c) c.index-tokens-place-in-Some.is
+    (found c) (within c) c.index-tokens-place-in-Some.is
 
 pub returns-in-Some-clause-named : goal.returns-in-Some-clause-named
 returns-in-Some-clause-named c =
     subst (λ (t : Token). (span : Span) (cause : Cause) → IsFault c.args.tokens.now span cause → (t.span ≡ span) × (G3 ≡ cause)) c.index-tokens-place-in-Some.is
-        (answered.deep-others c.args.tokens.now (written c) c.in-Ok.ensures.entries.1 (only c) c.in-Some.place c.index-tokens-place-in-Some.result
-            (found c) (within c) c.index-tokens-place-in-Some.is)
+    (answered.deep-others c.args.tokens.now (written c) c.in-Ok.ensures.entries.1 (only c) c.in-Some.place c.index-tokens-place-in-Some.result
+    (found c) (within c) c.index-tokens-place-in-Some.is)
 
 -- there is a last token
 several : (tokens : List Token) → EndsOnce tokens → length tokens - 1 + 1 ≡ length tokens
@@ -115,8 +115,8 @@ few-levels c =
     let source = c.in-Ok.ensures.entries in
     let bare = source-units source.0 (source.1).is_source (source.1).proper in
     let shallow : slice_get (deep 0 0 (source.0)) 0 ≡ None =
-        answered.deep-found (source.0) c.args.tokens.now c.in-Ok.entries.items c.deref.result.now c.in_ok-place.field-0 (source.1) (source.2)
-            c.deref.ensures.value c.in_ok-place.ensures ∙ c.in_default.is in
+    answered.deep-found (source.0) c.args.tokens.now c.in-Ok.entries.items c.deref.result.now c.in_ok-place.field-0 (source.1) (source.2)
+    c.deref.ensures.value c.in_ok-place.ensures ∙ c.in_default.is in
     let makes = c.in_ok-value.ensures (source.0) (Value.Units (bare.0)) (source.1) (c.deref-2.ensures.value ∙ source.2) (bare.1) in
     let same : bare_units c.units_of.result ≡ bare.0 = answered.units-by c.in_ok-value.value c.units_of.result (bare.0) (makes.0) c.units_of.ensures in
     let count : units_levels (bare.0) ≤ 256 = few.shallow (source.0) (bare.0) (none-is-deep (source.0) shallow) (bare.1) in
@@ -124,9 +124,9 @@ few-levels c =
 
 pub new-requires : goal.new-requires
 new-requires c = record {
-    few_tokens = omega (arith, c.requires.few);
-    few_levels = few-levels c;
-  }
+  few_tokens = omega (arith, c.requires.few);
+  few_levels = few-levels c;
+}
 
 -- a tree
 module _ (c : goal.After-drop-entries-2) where
@@ -143,14 +143,18 @@ module _ (c : goal.After-drop-entries-2) where
   makes : (option_map bare_value c.in_ok-value.value ≡ Some (Value.Units (bare.0))) × (c.in_ok-value.nodes ≡ nodes (source.0))
   makes = c.in_ok-value.ensures (source.0) (Value.Units (bare.0)) (source.1) (c.deref-2.ensures.value ∙ source.2) (bare.1)
 
-  yields : (t : Contents) → t ≡ record { units = c.units_of.result; tokens = length c.args.tokens.now - 1; nodes = c.in_ok-value.nodes;
-      end = (get_or c.args.tokens.now (length c.args.tokens.now - 1) c.index-tokens-last.result).span } → Yields t c.args.tokens.now
+  yields : (t : Contents) → t ≡ record {
+    units = c.units_of.result;
+    tokens = length c.args.tokens.now - 1;
+    nodes = c.in_ok-value.nodes;
+    end = (get_or c.args.tokens.now (length c.args.tokens.now - 1) c.index-tokens-last.result).span;
+  } → Yields t c.args.tokens.now
   yields t e =
       answered.yields-tree c.args.tokens.now (source.0) (source.1) (λ other text. c.one_text.ensures c.args.tokens.now other (source.0) text (source.1)) c.in_ok-value.value c.in_ok-value.nodes (length c.args.tokens.now - 1)
-          c.index-tokens-last.result c.units_of.result (bare.0) shallow (bare.1) (makes.0) (makes.1) c.units_of.ensures
-          (several c.args.tokens.now c.requires.ends) c.index-tokens-last.is t
-          (ap (λ (x : Contents). x.units) e) (ap (λ (x : Contents). x.tokens) e) (ap (λ (x : Contents). x.nodes) e)
-          (ap (λ (x : Contents). x.end) e ∙ ap (λ (x : Token). x.span) (sym c.index-tokens-last.is))
+      c.index-tokens-last.result c.units_of.result (bare.0) shallow (bare.1) (makes.0) (makes.1) c.units_of.ensures
+      (several c.args.tokens.now c.requires.ends) c.index-tokens-last.is t
+      (ap (λ (x : Contents). x.units) e) (ap (λ (x : Contents). x.tokens) e) (ap (λ (x : Contents). x.nodes) e)
+      (ap (λ (x : Contents). x.end) e ∙ ap (λ (x : Token). x.span) (sym c.index-tokens-last.is))
 
 pub returns-clause-tree : goal.returns-clause-tree
 returns-clause-tree c = yields c c.new.result c.new.ensures
@@ -158,9 +162,9 @@ returns-clause-tree c = yields c c.new.result c.new.ensures
 pub returns-clause-read : goal.returns-clause-read
 returns-clause-read c = λ tree other.
     trees-agree c.args.tokens.now (c.one_text.ensures c.args.tokens.now)
-        c.new.result tree (yields c c.new.result c.new.ensures) other
+    c.new.result tree (yields c c.new.result c.new.ensures) other
 
 pub returns-clause-named : goal.returns-clause-named
 returns-clause-named c = λ span cause fault.
     no-tree c.args.tokens.now (c.one_text.ensures c.args.tokens.now)
-        span cause c.new.result fault (yields c c.new.result c.new.ensures)
+    span cause c.new.result fault (yields c c.new.result c.new.ensures)
