@@ -1,6 +1,6 @@
 -- What the parser answers, from what it knows at each exit.
-use Rattle.std.proofs.Common.{◌≡◌, ◌+◌, ◌-◌, ◌<◌, ◌≤◌, ℕ, zero, suc, Bool, true, false, List, [], ◌∷◌, ◌++◌, length, get_or, Option, Some, None, sym, ap, subst, refl, ◌∙◌, arith}
-use Rattle.std.specs.Prelude.{slice_get, Result, Ok, Err}
+use Rattle.std.proofs.Common.{◌≡◌, ◌+◌, ◌<◌, ℕ, zero, suc, List, [], ◌∷◌, length, get_or, Option, Some, None, sym, ap, refl, ◌∙◌, arith}
+use Rattle.std.specs.Prelude.{slice_get}
 use Rattle.std.specs.Option.{option_map}
 use Rattle.csyn.specs.declared.token.Token.{Token}
 use Rattle.csyn.specs.declared.span.Span.{Span}
@@ -8,8 +8,7 @@ use Rattle.csyn.specs.declared.cause.Cause.{Cause}
 use Rattle.csyn.specs.declared.cause.Cause.TheVariants.{G3}
 use Rattle.csyn.specs.declared.unit.Units as units
 use Rattle.csyn.specs.Bare.{bare_units}
-use Rattle.csyn.specs.Levels.{units_levels}
-use Rattle.csyn.specs.Tree.{Contents, IsTree}
+use Rattle.csyn.specs.Tree.{Contents}
 use Rattle.cgrammar.specs.declared.kind.Kind.{Kind}
 use Rattle.cgrammar.specs.Kind.{kind_of}
 use Rattle.cgrammar.specs.Text.{Written, IsText, IsProper, IsFirstFault}

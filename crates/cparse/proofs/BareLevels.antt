@@ -1,18 +1,15 @@
 -- A tree without its pointers has as many levels.
-use Rattle.std.proofs.Common.{◌≡◌, ◌+◌, ℕ, Option, Some, None, sym, ap, refl, ◌∙◌}
+use Rattle.std.proofs.Common.{◌≡◌, ◌+◌, ℕ, Option, Some, None, ap, refl, ◌∙◌}
 use Rattle.std.specs.Prelude.{max}
 use Rattle.std.specs.Global.{Box}
 use Rattle.csyn.specs.declared.expression.Expr.{Expr}
 use Rattle.csyn.specs.declared.expression.ExprKind.{ExprKind, Name, Number, Character, Index', CallFunction, Call', Member', Arrow', Postfix', Prefix', SizeofExpression', SizeofType, Cast', Binary', Conditional', Assign', AssignWith', Comma'}
 use Rattle.csyn.specs.declared.expression.Exprs as exprs
-use Rattle.csyn.specs.declared.declaration.Declarator.{Declarator}
 use Rattle.csyn.specs.declared.declaration.Declarators as declarators
 use Rattle.csyn.specs.declared.declaration.Members as members
 use Rattle.csyn.specs.declared.declaration.Init as init
 use Rattle.csyn.specs.declared.declaration.Inits as inits
-use Rattle.csyn.specs.declared.declaration.InitDeclarator.{InitDeclarator}
 use Rattle.csyn.specs.declared.declaration.InitDeclarators as objects
-use Rattle.csyn.specs.declared.declaration.Object.{Object}
 use Rattle.csyn.specs.declared.declaration.LocalObject.{LocalObject}
 use Rattle.csyn.specs.declared.declaration.ParameterList as list
 use Rattle.csyn.specs.declared.declaration.Parameters.{Parameters}

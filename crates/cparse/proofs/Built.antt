@@ -1,38 +1,5 @@
 -- The productions of a source, one after another, make its value.
-use Rattle.std.proofs.Common.{
-  ◌≡◌,
-  ◌+◌,
-  ◌-◌,
-  ◌≤◌,
-  ℕ,
-  Bool,
-  true,
-  false,
-  List,
-  [],
-  ◌∷◌,
-  ◌++◌,
-  map,
-  reverse,
-  take,
-  drop,
-  length,
-  Option,
-  Some,
-  None,
-  sym,
-  ap,
-  subst,
-  refl,
-  ◌∙◌,
-  cond,
-  arith,
-  append_assoc,
-  length-append,
-  add_assoc,
-  add-zero,
-  zero-add,
-}
+use Rattle.std.proofs.Common.{◌≡◌, ◌+◌, ◌-◌, ℕ, List, [], ◌∷◌, ◌++◌, reverse, take, drop, length, Option, Some, None, sym, ap, subst, refl, ◌∙◌, cond, arith, append_assoc, length-append, add_assoc, add-zero, zero-add}
 use Rattle.std.proofs.lemmas.List.{append-nil, length-reverse}
 use Rattle.std.proofs.Math.Numerals.{add-one}
 use Rattle.std.proofs.Math.Seq.{take-append_seam}
@@ -41,8 +8,8 @@ use Rattle.std.specs.Option.{option_and_then}
 use mathlib.Core.List.{reverse_aux, reverse_aux-eq, reverse-reverse}
 use Rattle.csyn.specs.declared.token.Token.{Token}
 use Rattle.cgrammar.specs.declared.production.Production.{Production}
-use Rattle.cgrammar.specs.Grammar.{Class, source, Piece, token, part, template, parts_among, is_node}
-use Rattle.cgrammar.specs.Text.{Written, leaf, node, Forest, none, more, spell, spells, Stands, IsProper, Match, IsText, begins_with_else}
+use Rattle.cgrammar.specs.Grammar.{source, Piece, token, part, template, parts_among, is_node}
+use Rattle.cgrammar.specs.Text.{Written, leaf, node, Forest, none, more, spells, IsProper, Match, IsText, begins_with_else}
 use Rattle.creader.specs.declared.reader.Entry.{Entry}
 use Rattle.creader.specs.Entries.{entries, entries_of}
 use Rattle.cparse.specs.declared.value.Value.{Value}

@@ -1,5 +1,5 @@
 -- A node that stands too deep begins before the end token.
-use Rattle.std.proofs.Common.{◌≡◌, ◌+◌, ◌<◌, ◌≤◌, ℕ, Bool, true, false, List, [], ◌∷◌, ◌++◌, length, Option, Some, None, sym, ap, subst, refl, ◌∙◌, arith, length-append}
+use Rattle.std.proofs.Common.{◌≡◌, ◌+◌, ◌<◌, ◌≤◌, ℕ, true, false, List, [], ◌∷◌, ◌++◌, length, Some, sym, ap, subst, refl, ◌∙◌, arith, length-append}
 use Rattle.std.proofs.lemmas.List.{append-nil}
 use Rattle.std.specs.Prelude.{slice_get}
 use Rattle.csyn.specs.declared.token.Token.{Token}
@@ -11,8 +11,8 @@ use Rattle.cgrammar.specs.declared.production.Word.{Word}
 use Rattle.cgrammar.specs.declared.production.Word.TheVariants as word
 use Rattle.cgrammar.specs.declared.production.Words.{Words}
 use Rattle.cgrammar.specs.declared.production.Words.TheVariants as words
-use Rattle.cgrammar.specs.Grammar.{Class, source, home, under, is_wider, class_number, words_number, operator_level, assignment_class, alone, joined, template, is_node, own_nodes}
-use Rattle.cgrammar.specs.Text.{Written, leaf, node, Forest, none, more, spell, spells, Stands, IsProper, Match, IsText}
+use Rattle.cgrammar.specs.Grammar.{source, home, under, is_wider, class_number, words_number, operator_level, assignment_class, alone, joined, template, own_nodes}
+use Rattle.cgrammar.specs.Text.{Written, leaf, node, Forest, none, more, spell, spells, IsProper, Match, IsText}
 use Rattle.cparse.specs.Nodes.{deep, deep_of}
 use Rattle.cparse.proofs.Ascending.{Between, deep-between}
 

@@ -1,5 +1,5 @@
 -- Each production makes a value of its kind of parts that are of theirs.
-use Rattle.std.proofs.Common.{◌≡◌, ℕ, ◌-◌, Bool, true, false, ◌||◌, if◌then◌else◌, codes, List, [], ◌∷◌, length, Option, Some, None, slice_get, refl, sym, ap, subst}
+use Rattle.std.proofs.Common.{◌≡◌, ℕ, ◌-◌, Bool, true, false, ◌||◌, if◌then◌else◌, codes, List, [], ◌∷◌, length, Option, Some, slice_get, sym, subst}
 use Rattle.std.specs.Option.{option_map}
 use Rattle.csyn.specs.declared.mark.Mark.{Mark}
 use Rattle.csyn.specs.declared.token.Token.{Token}
@@ -31,8 +31,8 @@ use Rattle.cgrammar.specs.Grammar.{home, template, assignment_class, joined, bef
 use Rattle.cparse.specs.declared.value.Value.{Value}
 use Rattle.cparse.specs.declared.value.Value.TheVariants as value
 use Rattle.cparse.specs.Parts.{pick}
-use Rattle.cparse.specs.Make.{table, first, last, identifier, literal, number, character, prefixed, standard, specified, qualified, worded, no_words}
-use Rattle.cparse.proofs.Shape.{Shape, text, expr, base, ctype, words, qualifiers, nothing, IsOf, shape, shapes, Fits, end, and, Made, made, unused, is_base, is_ctype, is_declarator, is_declarators, is_expr, is_exprs, is_external_rest, is_for_first, is_function_end, is_init, is_init_declarator, is_init_declarators, is_inits, is_items, is_member, is_members, is_object, is_optional_expr, is_optional_init, is_optional_stmt, is_parameter, is_parameter_list, is_parameters, is_pointers, is_qualifiers, is_register_type, is_stmt, is_text, is_type_name, is_unit, is_units, is_words}
+use Rattle.cparse.specs.Make.{table, identifier, literal, number, character, prefixed, standard, specified, qualified, worded, no_words}
+use Rattle.cparse.proofs.Shape.{text, expr, base, ctype, words, qualifiers, shape, shapes, Fits, end, and, Made, made, unused, is_base, is_ctype, is_declarator, is_declarators, is_expr, is_exprs, is_external_rest, is_for_first, is_function_end, is_init, is_init_declarator, is_init_declarators, is_inits, is_items, is_member, is_members, is_object, is_optional_expr, is_optional_init, is_optional_stmt, is_parameter, is_parameter_list, is_parameters, is_pointers, is_qualifiers, is_register_type, is_stmt, is_text, is_type_name, is_unit, is_units, is_words}
 
 -- a token that the terminal accepts
 pub record Accepted (wanted : Terminal) (o : Option Token) : Type 0 where

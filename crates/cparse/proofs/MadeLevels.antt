@@ -1,5 +1,5 @@
 -- How many levels values have, and how many a production adds to those of its parts: one where it makes a node.
-use Rattle.std.proofs.Common.{◌≡◌, ℕ, ◌+◌, ◌≤◌, max, List, [], ◌∷◌, Option, Some, None, drop, refl, ap, arith}
+use Rattle.std.proofs.Common.{◌≡◌, ℕ, ◌+◌, ◌≤◌, max, List, [], ◌∷◌, Option, Some, None, refl, ap, arith}
 use Rattle.std.proofs.lemmas.Option.{same_Some}
 use Rattle.std.specs.Option.{option_map}
 use Rattle.std.specs.Global.{Box}
@@ -39,15 +39,12 @@ use Rattle.csyn.specs.declared.token.Token.{Token}
 use Rattle.csyn.specs.declared.token.TokenKind.{TokenKind}
 use Rattle.csyn.specs.declared.token.TokenKind.TheVariants as token
 use Rattle.csyn.specs.declared.operator.PrefixOperator.{PrefixOperator}
-use Rattle.csyn.specs.declared.statement.StmtKind.{StmtKind}
-use Rattle.csyn.specs.declared.unit.UnitKind.{UnitKind}
 use Rattle.cgrammar.specs.declared.production.Production.{Production}
 use Rattle.cgrammar.specs.declared.production.Production.TheVariants as production
 use Rattle.cgrammar.specs.Grammar.{own_nodes}
-use Rattle.cparse.specs.declared.value.ObjectRest.{ObjectRest}
 use Rattle.cparse.specs.declared.value.ExternalRest.TheVariants as rest_of
-use Rattle.cparse.specs.Parts.{next, and_then, pick, only, register_type, text, expr, exprs, optional_expr, type_name, ctype, base, words, qualifiers, pointers, declarator, declarators, member, members, init, optional_init, inits, init_declarator, init_declarators, object, stmt, optional_stmt, for_first, items, external_rest, function_end, parameters, parameter, parameter_list, unit, units}
-use Rattle.cparse.specs.Make.{table, first, last, identifier, literal, number, character, prefix_of, prefixed, standard, specified, qualified, worded, no_words, if_of, external, expression_at}
+use Rattle.cparse.specs.Parts.{and_then, pick, only, register_type, text, expr, exprs, optional_expr, type_name, ctype, base, words, qualifiers, pointers, declarator, declarators, member, members, init, optional_init, inits, init_declarator, init_declarators, object, stmt, optional_stmt, for_first, items, external_rest, function_end, parameters, parameter, parameter_list, unit, units}
+use Rattle.cparse.specs.Make.{table, first, last, identifier, literal, number, character, prefix_of, standard, specified, qualified, worded, no_words, if_of, external, expression_at}
 
 abbrev pub branch_levels : Option (Box Stmt) → ℕ
 branch_levels None = 0

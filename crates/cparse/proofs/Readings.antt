@@ -1,21 +1,19 @@
 -- A list of tokens has one tree, or one first fault, and not both.
-use Rattle.std.proofs.Common.{◌≡◌, ◌+◌, ◌-◌, ◌<◌, ◌≤◌, ◌⊎◌, inl, inr, ℕ, zero, suc, Bool, true, false, List, [], ◌∷◌, ◌++◌, take, drop, length, Option, Some, None, sym, ap, subst, refl, ◌∙◌, arith, append_assoc}
+use Rattle.std.proofs.Common.{◌≡◌, ◌+◌, ◌-◌, ◌<◌, ◌≤◌, ◌⊎◌, inl, inr, ℕ, zero, suc, List, [], ◌∷◌, ◌++◌, take, drop, Some, sym, ap, subst, refl, ◌∙◌, arith, append_assoc}
 use Rattle.std.specs.Prelude.{slice_get, Contains}
 use Rattle.std.proofs.lemmas.List.{take-append-drop}
 use Rattle.std.proofs.lemmas.Bool.{cases_order}
 use Rattle.csyn.specs.declared.token.Token.{Token}
 use Rattle.csyn.specs.declared.span.Span.{Span}
 use Rattle.csyn.specs.declared.cause.Cause.{Cause}
-use Rattle.csyn.specs.declared.cause.Cause.TheVariants.{G3}
 use Rattle.csyn.specs.Bare.{bare_units}
 use Rattle.csyn.specs.Tree.{Contents}
 use Rattle.cgrammar.specs.Kind.{kind_of}
 use Rattle.cgrammar.specs.Text.{Written, IsText, IsFirstFault}
-use Rattle.cparse.specs.declared.value.Value.{Value}
 use Rattle.cparse.specs.declared.value.Value.TheVariants.{Units}
 use Rattle.cparse.specs.Nodes.{nodes, deep, IsFirstDeep}
 use Rattle.cparse.specs.Tree.{value}
-use Rattle.cparse.specs.Parsed.{Yields, FaultAt, IsUnreadable, IsTooDeep, IsFault, unreadable, too_deep, Same, kind_cause}
+use Rattle.cparse.specs.Parsed.{Yields, FaultAt, IsFault, unreadable, too_deep, Same, kind_cause}
 use Rattle.cparse.proofs.Ascending.{one-first-deep}
 
 -- a source has no token that can't stand

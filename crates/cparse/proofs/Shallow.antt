@@ -1,5 +1,5 @@
 -- A source in which no node stands too deep has units of few enough levels.
-use Rattle.std.proofs.Common.{◌≡◌, ℕ, ◌+◌, ◌≤◌, ◌<◌, max, Bool, true, false, nat_eq, if◌then◌else◌, List, [], ◌∷◌, ◌++◌, length, Option, Some, None, refl, ap, sym, subst, ◌∙◌, arith}
+use Rattle.std.proofs.Common.{◌≡◌, ℕ, ◌+◌, ◌≤◌, max, Bool, true, false, nat_eq, if◌then◌else◌, List, [], ◌∷◌, ◌++◌, length, Option, Some, None, refl, subst, arith}
 use Rattle.std.proofs.lemmas.Bool.{eq-eqb}
 use Rattle.std.proofs.lemmas.Option.{same_Some}
 use Rattle.csyn.specs.declared.token.Token.{Token}
@@ -11,7 +11,7 @@ use Rattle.cgrammar.specs.Grammar.{own_nodes, is_node}
 use Rattle.cgrammar.specs.Text.{Written, leaf, node, Forest, none, more, spell, spells}
 use Rattle.cparse.specs.declared.value.Value.{Value}
 use Rattle.cparse.specs.declared.value.Value.TheVariants as value
-use Rattle.cparse.specs.Make.{mark_at, table}
+use Rattle.cparse.specs.Make.{mark_at}
 use Rattle.cparse.specs.Nodes.{nodes, nodes_of, deep, deep_of, deep_here, below}
 use Rattle.cparse.specs.Tree.{value as value_of, values, place_of, in_front, made as made_of}
 use Rattle.cparse.proofs.MadeLevels.{value_levels, greatest, AtMost, unmade, at_most, raise, table-levels}

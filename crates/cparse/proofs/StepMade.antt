@@ -1,15 +1,14 @@
 -- One production made of the last values, in the code and in the definition.
-use Rattle.std.proofs.Common.{◌≡◌, ◌+◌, ℕ, Bool, true, false, List, [], ◌∷◌, ◌++◌, map, reverse, take, drop, length, Option, Some, None, sym, ap, subst, refl, ◌∙◌, cond}
+use Rattle.std.proofs.Common.{◌≡◌, ◌+◌, ℕ, Bool, List, [], ◌∷◌, map, reverse, take, drop, Option, Some, None, sym, ap, refl, ◌∙◌, cond}
 use Rattle.std.proofs.lemmas.List.{take-map, drop-map}
 use mathlib.Core.List.{reverse_aux}
 use Rattle.std.specs.Option.{option_map}
-use Rattle.std.specs.Prelude.{slice_range}
 use Rattle.csyn.specs.declared.token.Token.{Token}
 use Rattle.cgrammar.specs.Grammar.{template, parts_among, is_node}
 use Rattle.creader.specs.declared.reader.Entry.{Entry}
 use Rattle.cparse.specs.declared.value.Value.{Value}
-use Rattle.cparse.specs.Make.{Place, make}
-use Rattle.cparse.specs.Build.{Built, built, build_one, with_value, place_in}
+use Rattle.cparse.specs.Make.{make}
+use Rattle.cparse.specs.Build.{built, build_one, with_value, place_in}
 use Rattle.cparse.specs.Value.{bare_value, bare_values}
 
 map-reverse-onto : {A B : Type 0} (f : A → B) (xs front : List A) → map f (reverse_aux xs front) ≡ reverse_aux (map f xs) (map f front)

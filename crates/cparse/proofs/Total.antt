@@ -1,22 +1,21 @@
 -- Each proper tree of a production in use has a value, of the kind that its class has.
-use Rattle.std.proofs.Common.{◌≡◌, ℕ, ◌+◌, ◌-◌, ◌⊎◌, Bool, true, false, ◌||◌, ◌&&◌, List, [], ◌∷◌, ◌++◌, length, Option, Some, None, slice_get, refl, sym, ap, subst, inl, inr, ◌∙◌, arith, length-append}
+use Rattle.std.proofs.Common.{◌≡◌, ℕ, ◌+◌, ◌-◌, Bool, true, false, ◌&&◌, List, [], ◌∷◌, ◌++◌, length, Option, Some, slice_get, refl, sym, subst, arith, length-append}
 use Rattle.csyn.specs.declared.token.Token.{Token}
-use Rattle.csyn.specs.declared.operator.BinaryOperator.TheVariants as operator
 use Rattle.csyn.specs.declared.unit.Units.{Units}
 use Rattle.cgrammar.specs.declared.terminal.Terminal.{Terminal}
 use Rattle.cgrammar.specs.declared.production.Word.TheVariants as word
 use Rattle.cgrammar.specs.declared.production.Words.TheVariants as every
 use Rattle.cgrammar.specs.declared.production.Production.{Production}
 use Rattle.cgrammar.specs.declared.production.Production.TheVariants as production
-use Rattle.cgrammar.specs.Grammar.{Piece, token, part, under, home, template, assignment_class, joined, before, alone, word_token, source}
+use Rattle.cgrammar.specs.Grammar.{Piece, token, part, home, template, assignment_class, joined, before, alone, source}
 use Rattle.cgrammar.specs.Text.{Written, leaf, node, Forest, none, more, spell, spells, Stands, IsProper, Match}
 use Rattle.cparse.specs.declared.value.Value.{Value}
 use Rattle.cparse.specs.declared.value.Value.TheVariants as value
-use Rattle.cparse.specs.Make.{mark_at, table}
+use Rattle.cparse.specs.Make.{mark_at}
 use Rattle.cparse.specs.Nodes.{nodes, nodes_of}
 use Rattle.cparse.specs.Tree.{value as value_of, values, place_of, in_front, made as made_of}
-use Rattle.cparse.proofs.Shape.{Shape, units, nothing, IsOf, is_units, shape, shapes, under-shape, Fits, end, and, Made, made, unused, is_used, all_used}
-use Rattle.cparse.proofs.Made.{Accepted, Begins, Ends, OwnTokens, makes}
+use Rattle.cparse.proofs.Shape.{Shape, units, nothing, is_units, shape, shapes, under-shape, Fits, end, and, Made, made, unused, is_used, all_used}
+use Rattle.cparse.proofs.Made.{Begins, Ends, OwnTokens, makes}
 
 -- the first token of a right side that begins with one
 begins : (wanted : Terminal) (pieces : List Piece) (parts : Forest) → Match (token wanted ∷ pieces) parts → Begins wanted (spells parts)

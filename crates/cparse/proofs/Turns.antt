@@ -7,13 +7,12 @@ use Rattle.std.proofs.lemmas.List.{drop_all}
 use Rattle.std.proofs.Math.Seq.{drop-cons}
 use Rattle.std.proofs.Math.Numerals.{add-one}
 use Rattle.csyn.specs.declared.token.Token.{Token}
-use Rattle.cgrammar.specs.Text.{Written, IsText, spell}
+use Rattle.cgrammar.specs.Text.{Written, IsText}
 use Rattle.cgrammar.specs.Grammar.{is_node}
 use Rattle.creader.specs.declared.reader.Entry.{Entry}
 use Rattle.creader.specs.Entries.{entries}
 use Rattle.cparse.specs.declared.value.Value.{Value}
 use Rattle.cparse.specs.Nodes.{nodes}
-use Rattle.cparse.specs.Make.{make}
 use Rattle.cparse.specs.Tree.{value}
 use Rattle.cparse.specs.Build.{Built, built, build, build_one, with_value}
 use Rattle.cparse.specs.Value.{bare_value, bare_values}

@@ -1,6 +1,5 @@
 -- The productions of a source lie within it, and they are counted.
-use Rattle.std.proofs.Common.{◌≡◌, ◌+◌, ◌<◌, ◌≤◌, ℕ, zero, suc, List, [], ◌∷◌, ◌++◌, length, get_or, sym, ap, subst, refl, ◌∙◌, arith, length-append}
-use Rattle.cgrammar.specs.declared.production.Production.{Production}
+use Rattle.std.proofs.Common.{◌+◌, ◌<◌, ◌≤◌, ℕ, zero, suc, List, [], ◌∷◌, ◌++◌, length, get_or, arith, length-append}
 use Rattle.cgrammar.specs.Text.{Written, leaf, node, Forest, none, more, spell, spells}
 use Rattle.creader.specs.declared.reader.Entry.{Entry}
 use Rattle.creader.specs.Entries.{entries, entries_of}

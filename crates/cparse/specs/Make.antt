@@ -15,7 +15,6 @@ use Rattle.csyn.specs.declared.operator.PrefixOperator.TheVariants as prefix
 use Rattle.csyn.specs.declared.operator.PostfixOperator.TheVariants as postfix
 use Rattle.csyn.specs.declared.ctype.Sign.TheVariants as sign
 use Rattle.csyn.specs.declared.ctype.Length.TheVariants as size
-use Rattle.csyn.specs.declared.ctype.Base.{Base}
 use Rattle.csyn.specs.declared.ctype.Base.TheVariants as base_of
 use Rattle.csyn.specs.declared.ctype.CType.{CType}
 use Rattle.csyn.specs.declared.ctype.IntegerWords.{IntegerWords}
@@ -25,7 +24,6 @@ use Rattle.csyn.specs.declared.ctype.Pointers as pointers_of
 use Rattle.csyn.specs.declared.expression.Expr.{Expr}
 use Rattle.csyn.specs.declared.expression.ExprKind as expression
 use Rattle.csyn.specs.declared.expression.Exprs as exprs_of
-use Rattle.csyn.specs.declared.declaration.Declarator.{Declarator}
 use Rattle.csyn.specs.declared.declaration.Declarators as declarators_of
 use Rattle.csyn.specs.declared.declaration.Members as members_of
 use Rattle.csyn.specs.declared.declaration.Init as init_of
@@ -35,19 +33,16 @@ use Rattle.csyn.specs.declared.declaration.InitDeclarators.{InitDeclarators}
 use Rattle.csyn.specs.declared.declaration.InitDeclarators as objects_of
 use Rattle.csyn.specs.declared.declaration.Object.{Object}
 use Rattle.csyn.specs.declared.declaration.ParameterList as list_of
-use Rattle.csyn.specs.declared.declaration.Parameters.{Parameters}
 use Rattle.csyn.specs.declared.declaration.Parameters.TheVariants as parameters_of
 use Rattle.csyn.specs.declared.statement.ForFirst.TheVariants as first_of
 use Rattle.csyn.specs.declared.statement.Stmt.{Stmt}
 use Rattle.csyn.specs.declared.statement.StmtKind as statement
 use Rattle.csyn.specs.declared.statement.Items as items_of
-use Rattle.csyn.specs.declared.unit.Head.{Head}
 use Rattle.csyn.specs.declared.unit.UnitKind.{UnitKind}
 use Rattle.csyn.specs.declared.unit.UnitKind.TheVariants as unit_of
 use Rattle.csyn.specs.declared.unit.Units as units_of
 use Rattle.cgrammar.specs.declared.production.Production.{Production}
 use Rattle.cgrammar.specs.declared.production.Production.TheVariants as production
-use Rattle.cparse.specs.declared.value.ObjectRest.{ObjectRest}
 use Rattle.cparse.specs.declared.value.ExternalRest.{ExternalRest}
 use Rattle.cparse.specs.declared.value.ExternalRest.TheVariants as rest_of
 use Rattle.cparse.specs.declared.value.Value.{Value}

@@ -1,7 +1,7 @@
 -- The nodes of a source as it is written: how many there are, and where those begin that stand too deep.
-use Rattle.std.specs.Prelude.{◌≡◌, ℕ, ◌+◌, ◌≤◌, Bool, nat_eq, if◌then◌else◌, List, [], ◌∷◌, ◌++◌, length, All, Contains}
+use Rattle.std.specs.Prelude.{ℕ, ◌+◌, ◌≤◌, Bool, nat_eq, if◌then◌else◌, List, [], ◌∷◌, ◌++◌, length, All, Contains}
 use Rattle.cgrammar.specs.Grammar.{is_node}
-use Rattle.cgrammar.specs.Text.{Written, leaf, node, Forest, none, more, spell, spells}
+use Rattle.cgrammar.specs.Text.{Written, leaf, node, Forest, none, more, spell}
 
 unfoldable mutual
   -- how many nodes it has

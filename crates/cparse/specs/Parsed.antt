@@ -1,5 +1,5 @@
 -- The tree of a source, or its first fault.
-use Rattle.std.specs.Prelude.{◌≡◌, ℕ, ◌+◌, ◌<◌, ◌-◌, List, [], ◌∷◌, length, slice_get, Option, Some, None, Result, Ok, Err, if◌then◌else◌}
+use Rattle.std.specs.Prelude.{◌≡◌, ℕ, ◌+◌, List, [], length, slice_get, Some, Result, Ok, Err, if◌then◌else◌}
 use Rattle.csyn.specs.declared.token.Token.{Token}
 use Rattle.csyn.specs.declared.span.Span.{Span}
 use Rattle.csyn.specs.declared.cause.Cause.{Cause}

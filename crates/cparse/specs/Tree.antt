@@ -1,9 +1,8 @@
 -- The tree of a source: what each production makes of its parts, from the leaves up.
-use Rattle.std.specs.Prelude.{◌≡◌, ℕ, ◌+◌, ◌-◌, List, [], ◌∷◌, ◌++◌, length, Option, Some, None, slice_get}
-use Rattle.csyn.specs.declared.mark.Mark.{Mark}
+use Rattle.std.specs.Prelude.{ℕ, ◌+◌, List, [], ◌∷◌, Option, Some, None}
 use Rattle.csyn.specs.declared.token.Token.{Token}
 use Rattle.cgrammar.specs.declared.production.Production.{Production}
-use Rattle.cgrammar.specs.Text.{Written, leaf, node, Forest, none, more, spell, spells}
+use Rattle.cgrammar.specs.Text.{Written, leaf, node, Forest, none, more, spells}
 use Rattle.cparse.specs.declared.value.Value.{Value}
 use Rattle.cparse.specs.Nodes.{nodes, nodes_of}
 use Rattle.cparse.specs.Make.{Place, make}

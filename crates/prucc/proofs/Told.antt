@@ -1,6 +1,5 @@
 -- What is told through several calls.
-use Rattle.std.proofs.Common.{◌≡◌, ℕ, ◌+◌, ◌<◌, ◌≤◌, List, [], length, Option, Some, None, ap, subst, ◌∙◌, take, inl, inr, arith}
-use Rattle.std.proofs.lemmas.List.{take_all, length-take}
+use Rattle.std.proofs.Common.{◌≡◌, ℕ, ◌<◌, ◌≤◌, List, [], length, Option, Some, None, ap, subst, ◌∙◌, inl, inr, arith}
 use Rattle.std.specs.Prelude.{unwrap_or}
 use Rattle.fileset.specs.Told.{Held, content, Tells, IsSameFiles}
 use Rattle.prucc.specs.declared.top.Inputs.{Inputs}
@@ -22,11 +21,6 @@ pub Tells-weaker : {T : Type 0} (a b : Option T) (P Q : T → T → Type 0) → 
 Tells-weaker a None P Q f p = tt
 Tells-weaker None (Some y) P Q f p = absurd p
 Tells-weaker (Some x) (Some y) P Q f p = f x y p
-
-pub Tells-both : {T : Type 0} (a b : Option T) (P Q R : T → T → Type 0) → ((x y : T) → P x y → Q x y → R x y) → Tells a b P → Tells a b Q → Tells a b R
-Tells-both a None P Q R f p q = tt
-Tells-both None (Some y) P Q R f p q = absurd p
-Tells-both (Some x) (Some y) P Q R f p q = f x y p q
 
 pub same-then : (x y z : Held) → IsSameFiles x y → IsSameFiles y z → IsSameFiles x z
 same-then x y z p q name = q name ∙ p name
@@ -57,13 +51,6 @@ pub same_twice : (a b c : Option Held) → Tells a b IsSameFiles → Tells b c I
 same_twice a b c p q = Tells-then a b c IsSameFiles IsSameFiles IsSameFiles same-then p q
 
 -- ---- a read that fails
-
--- a read within its most bytes has the whole file
-pub whole_file : (bytes file : List ℕ) (max : ℕ) → bytes ≡ take (max + 1) file → length bytes ≤ max → bytes ≡ file
-whole_file bytes file max e short = e ∙ take_all (max + 1) file (omega (arith, ap length e, length-take (max + 1) file))
-
-pub long_file : (bytes file : List ℕ) (max : ℕ) → bytes ≡ take (max + 1) file → max < length bytes → max < length file
-long_file bytes file max e long = omega (arith, ap length e, length-take (max + 1) file)
 
 pub zero_fails : (r : Asked) (a b : Option Held) (f0 f1 : ℕ) (s : Status) → ReadFails r.zero 65536 a b f0 f1 s → InputFails r a b f0 f1 s
 zero_fails r a b f0 f1 (ReadFault file) h = (inl h.0, h.1)

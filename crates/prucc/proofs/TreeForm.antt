@@ -1,14 +1,16 @@
 -- Reading the items of a body one by one: what is left writes what is left to write, and departs where the body does.
-use Rattle.std.proofs.Common.{◌≡◌, ℕ, ◌+◌, ◌^◌, Bool, true, false, List, [], ◌∷◌, ◌++◌, length, Option, Some, None, refl, sym, ap, subst, ◌∙◌, append_assoc, arith, length-append}
+use Rattle.std.proofs.Common.{◌≡◌, ℕ, ◌+◌, ◌^◌, ◌≤◌, Bool, true, false, List, [], ◌∷◌, ◌++◌, length, Option, Some, None, Result, Ok, Err, refl, sym, ap, subst, ◌∙◌, append_assoc, arith, length-append}
 use Rattle.std.specs.Prelude.{◌&&◌, nat_lt, if◌then◌else◌, is_some}
 use Rattle.std.specs.List.{AllByRecursion}
 use Rattle.std.specs.Global.{Box}
-use Rattle.std.proofs.lemmas.Bool.{ltb-true}
+use Rattle.std.specs.Prelude.{IfOk, IfErr}
+use Rattle.std.specs.Global.{Vec}
+use Rattle.std.proofs.lemmas.Bool.{ltb-true, lt-ltb}
 use Rattle.std.proofs.lemmas.List.{append-nil}
 use Rattle.csyn.specs.declared.mark.Mark.{Mark}
 use Rattle.csyn.specs.declared.span.Span.{Span}
 use Rattle.csyn.specs.declared.declaration.LocalObject.{LocalObject}
-use Rattle.csyn.specs.declared.expression.ExprKind.{ExprKind, Number, Assign'}
+use Rattle.csyn.specs.declared.expression.ExprKind.{ExprKind, Number, CallFunction, Assign'}
 use Rattle.csyn.specs.declared.statement.Stmt.{Stmt}
 use Rattle.csyn.specs.declared.statement.StmtKind.{StmtKind, Expression}
 use Rattle.csyn.specs.declared.statement.Items as items
@@ -19,8 +21,8 @@ use Rattle.csyn.specs.declared.unit.Units as units
 use Rattle.csyn.specs.Tree.{Contents}
 use Rattle.prucc.specs.declared.form.FormFault.{FormFault}
 use Rattle.prucc.specs.declared.form.FormFault.TheVariants as form
-use Rattle.prucc.specs.SourceAnswer.{BodyFails, FormFails}
-use Rattle.prucc.specs.Form.{IsLoadable, AreWrites, is_output, loadable_of, assigned, write_of, halts, is_end, is_main, IsMain, IsMainAlone, BodyWrites, body_departure, behind_head, unit_departure, units_departure}
+use Rattle.prucc.specs.SourceAnswer.{BodyFails, FormFails, ReadsAs}
+use Rattle.prucc.specs.Form.{IsLoadable, AreWrites, is_output, loadable_of, assigned, write_of, calls_halt, halts, is_end, is_main, IsMain, IsMainAlone, BodyWrites, IsProgram, body_departure, behind_head, unit_departure, units_departure, departure}
 
 -- what of a body is left behind these writes
 pub record IsLeft (end : Span) (body left : items.Items) (writes : List ℕ) : Type 0 where
@@ -162,3 +164,76 @@ end_of items.End no_statement no_object = refl
 end_of (items.Object' o q rest) no_statement no_object = absurd (no_object o (record { ptr = q.ptr; alloc = q.alloc; value = rest }) refl)
 end_of (items.Statement' p m s q rest) no_statement no_object =
     absurd (no_statement (record { ptr = p.ptr; alloc = p.alloc; value = record { mark = m; kind = s } }) (record { ptr = q.ptr; alloc = q.alloc; value = rest }) refl)
+
+-- ---- a tree that has the form departs nowhere, and writes one list of numbers
+
+halt_call : (kind : ExprKind) → calls_halt kind ≡ true → assigned kind ≡ None
+halt_call (CallFunction name arguments) h = refl
+halt_call _ h = absurd cc
+
+halt_is_no_write : (s : StmtKind) → halts s ≡ true → write_of s ≡ None
+unfolding halts write_of
+halt_is_no_write (Expression (Some e)) h = halt_call e.value.kind h
+halt_is_no_write _ h = absurd cc
+
+stays_at_halt : (is_last : Bool) (w : Option ℕ) (room halt : Bool) (next : Option Span) (span : Span) → w ≡ None → halt ≡ true → is_last ≡ true
+    → (if is_some w && room then next else (if halt && is_last then None else Some span)) ≡ None
+stays_at_halt true None room true next span w h l = refl
+stays_at_halt false w room halt next span _ h l = absurd cc
+stays_at_halt true (Some _) room halt next span w h l = absurd cc
+stays_at_halt true None room false next span w h l = absurd cc
+
+stays_at_write : (w : Option ℕ) (k : ℕ) (room : Bool) (next other : Option Span) → w ≡ Some k → room ≡ true → next ≡ None → (if is_some w && room then next else other) ≡ None
+stays_at_write (Some _) k true next other w r n = n
+stays_at_write None k room next other w r n = absurd cc
+stays_at_write (Some _) k false next other w r n = absurd cc
+
+body_stays : (end : Span) (written : ℕ) (body : items.Items) (ks : List ℕ) → BodyWrites body ks → written + length ks ≤ 2047 → body_departure end written body ≡ None
+unfolding BodyWrites body_departure
+body_stays end written items.End ks h few = absurd h
+body_stays end written (items.Object' _ _ _) ks h few = absurd h
+body_stays end written (items.Statement' _ m s _ rest) [] h few =
+    stays_at_halt (is_end rest) (write_of s) (nat_lt written 2047) (halts s) (body_departure end (written + 1) rest) m.span (halt_is_no_write s h.0) h.0 h.1
+body_stays end written (items.Statement' _ m s _ rest) (k ∷ ks) h few =
+    stays_at_write (write_of s) k (nat_lt written 2047) (body_departure end (written + 1) rest) (if halts s && is_end rest then None else Some m.span) h.0 (lt-ltb written 2047 (omega arith))
+    (body_stays end (written + 1) rest ks h.1 (omega arith))
+
+same_number : (a : Option ℕ) (k l : ℕ) → a ≡ Some k → a ≡ Some l → k ≡ l
+same_number a k l e f = let both : ◌≡◌ {A = Option ℕ} (Some k) (Some l) = sym e ∙ f in cc
+
+same_writes : (body : items.Items) (ks ls : List ℕ) → BodyWrites body ks → BodyWrites body ls → ks ≡ ls
+unfolding BodyWrites
+same_writes items.End ks ls h g = absurd h
+same_writes (items.Object' _ _ _) ks ls h g = absurd h
+same_writes (items.Statement' _ m s _ rest) [] [] h g = refl
+same_writes (items.Statement' _ m s _ rest) [] (l ∷ ls) h g = absurd (let none = halt_is_no_write s h.0 in let some = g.0 in cc)
+same_writes (items.Statement' _ m s _ rest) (k ∷ ks) [] h g = absurd (let none = halt_is_no_write s g.0 in let some = h.0 in cc)
+same_writes (items.Statement' _ m s _ rest) (k ∷ ks) (l ∷ ls) h g =
+    let first = same_number (write_of s) k l h.0 g.0 in
+    let others = same_writes rest ks ls h.1 g.1 in
+    λ i. first i ∷ others i
+
+same_body : (k : UnitKind) (a b : items.Items) → IsMain k a → IsMain k b → a ≡ b
+same_body (kind.Function head all) a b h g = sym h.1 ∙ g.1
+same_body (kind.Struct _ _) a b h g = absurd h
+same_body kind.Register a b h g = absurd h
+same_body (kind.Object _) a b h g = absurd h
+same_body (kind.Prototype _) a b h g = absurd h
+
+same_main : (all : units.Units) (a b : items.Items) → IsMainAlone all a → IsMainAlone all b → a ≡ b
+unfolding IsMainAlone
+same_main (units.More' u _ units.End) a b h g = same_body u.value.kind a b h g
+same_main (units.More' _ _ (units.More' _ _ _)) a b h g = absurd h
+same_main units.End a b h g = absurd h
+
+same_program : (all : units.Units) (ks ls : List ℕ) → IsProgram all ks → IsProgram all ls → ks ≡ ls
+same_program all ks ls p q = same_writes q.body ks ls (subst (λ (body : items.Items). BodyWrites body ks) (same_main all p.body q.body p.main q.main) p.writes) q.writes
+
+program_stays : (tree : Contents) (ks : List ℕ) → IsProgram tree.units ks → departure tree ≡ None
+program_stays tree ks p = main_departs tree.end tree.units p.body p.main ∙ body_stays tree.end 0 p.body ks p.writes (let count = p.are_writes.count in omega arith)
+
+-- a program that is read is read as it is, and is not said to depart
+pub program_read : (tree : Contents) (r : Result (Vec ℕ) FormFault) → IfOk r (λ writes. IsProgram tree.units writes.items) → IfErr r (FormFails tree) → (ks : List ℕ) → IsProgram tree.units ks → ReadsAs ks r
+program_read tree (Ok writes) ok err ks p = same_program tree.units writes.items ks ok p
+program_read tree (Err (form.At span)) ok err ks p = absurd (let none = program_stays tree ks p in cc)
+program_read tree (Err form.Memory) ok err ks p = tt

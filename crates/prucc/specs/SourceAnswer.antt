@@ -1,5 +1,6 @@
 -- The answers of reading a source: inner words of `form` and `source`.
-use Rattle.std.specs.Prelude.{◌≡◌, ℕ, List, Option, Some, None}
+use Rattle.std.specs.Prelude.{◌≡◌, ℕ, List, Option, Some, None, Result, Ok, Err}
+use Rattle.std.specs.Global.{Vec}
 use Rattle.csyn.specs.declared.fault.SourceFault.{SourceFault}
 use Rattle.csyn.specs.declared.fault.SourceFault.TheVariants as source
 use Rattle.csyn.specs.declared.span.Span.{Span}
@@ -33,6 +34,12 @@ BodyFails end body form.Memory = Unit {0}
 abbrev pub FormFails : Contents → FormFault → Type 0
 FormFails tree (form.At span) = departure tree ≡ Some span
 FormFails tree form.Memory = Unit {0}
+
+-- the tree is read as writing these numbers, or memory is wanting
+abbrev pub ReadsAs : List ℕ → Result (Vec ℕ) FormFault → Type 0
+ReadsAs ks (Ok writes) = writes.items ≡ ks
+ReadsAs ks (Err (form.At _)) = ⊥
+ReadsAs ks (Err form.Memory) = Unit {0}
 
 -- why a source isn't read
 abbrev pub Refuses : List ℕ → SourceRefusal → Type 0

@@ -1,9 +1,9 @@
 //! The one form of tree that is compiled so far.
 
-ghost use Rattle.std.specs.Prelude.{◌≡◌, IfOk, IfErr, Some, is_some, nat_lt, if◌then◌else◌, None};
+ghost use Rattle.std.specs.Prelude.{◌≡◌, ℕ, List, IfOk, IfErr, Some, is_some, nat_lt, if◌then◌else◌, None};
 ghost use Rattle.prucc.specs.declared.form.FormFault.TheVariants.{Memory};
 ghost use Rattle.prucc.specs.Form as form;
-ghost use Rattle.prucc.specs.SourceAnswer.{BodyFails, FormFails, MainOf, first_begin};
+ghost use Rattle.prucc.specs.SourceAnswer.{BodyFails, FormFails, MainOf, ReadsAs, first_begin};
 ghost use Rattle.std.specs.Option.{option_copied};
 
 use csyn::{
@@ -204,8 +204,7 @@ fn main_body(units: &Units, end: Span) -> Result<&Items, Span>
     }
 }
 
-/// The constants that a tree of the form writes.
-pub fn writes_of(alloc: Global, tree: &Tree) -> Result<Vec<u16>, FormFault>
+fn tree_writes(alloc: Global, tree: &Tree) -> Result<Vec<u16>, FormFault>
     ensures writes { IfOk result (λ writes. form.IsProgram tree.now.units writes.items) }
     ensures err { IfErr result (FormFails tree.now) }
 {
@@ -214,4 +213,15 @@ pub fn writes_of(alloc: Global, tree: &Tree) -> Result<Vec<u16>, FormFault>
         Ok(body) => body_writes(alloc, body, end),
         Err(span) => Err(FormFault::At(span)),
     }
+}
+
+/// The constants that a tree of the form writes.
+pub fn writes_of(alloc: Global, tree: &Tree) -> Result<Vec<u16>, FormFault>
+    ensures writes { IfOk result (λ writes. form.IsProgram tree.now.units writes.items) }
+    ensures err { IfErr result (FormFails tree.now) }
+
+    // A tree of the form is read as what it writes, unless memory is wanting: it departs nowhere.
+    ensures read { (ks : List ℕ) → form.IsProgram tree.now.units ks → ReadsAs ks result }
+{
+    tree_writes(alloc, tree)
 }

@@ -12,9 +12,9 @@ mod status;
 mod summary;
 #[cfg(test)]
 mod tests;
+mod top;
 #[cfg(test)]
 mod tree_tests;
-mod top;
 
 use fileset::{HostFiles, HostSink};
 use status::Status;

@@ -5,8 +5,8 @@ ghost use Rattle.std.specs.Prelude.{◌≤◌, length};
 use clex::tokens;
 use cparse::parse;
 use csyn::{
-    Expr, ExprKind, Exprs, ForFirst, Items, Mark, SourceFault, Stmt, StmtKind, Text, Tree, UnitKind,
-    Units,
+    Expr, ExprKind, Exprs, ForFirst, Items, Mark, SourceFault, Stmt, StmtKind, Text, Tree,
+    UnitKind, Units,
 };
 use std::alloc::{AllocError, Global};
 use std::test::Fail;
@@ -165,18 +165,54 @@ fn outcome(alloc: Global, source: &[u8]) -> Result<String, AllocError> {
 
 const STATEMENTS: [(&str, &str); 12] = [
     // the statement begins at column 15
-    ("void f(void){ (a) + b; }", "[;@3:15+6 (Add@2:15+5 a@0:16+1 b@1:21+1)]"),
-    ("void f(void){ a - b - c; }", "[;@5:15+6 (Subtract@4:15+5 (Subtract@2:15+3 a@0:15+1 b@1:19+1) c@3:23+1)]"),
-    ("void f(void){ a + b * c; }", "[;@5:15+6 (Add@4:15+5 a@0:15+1 (Multiply@3:19+3 b@1:19+1 c@2:23+1))]"),
-    ("void f(void){ (a) = 1; }", "[;@3:15+6 (=@2:15+5 a@0:16+1 1@1:21+1)]"),
-    ("void f(void){ (int)(a); }", "[;@2:15+7 (cast@1:15+6 a@0:21+1)]"),
-    ("void f(void){ sizeof(int) * p; }", "[;@3:15+7 (Multiply@2:15+6 (sizeof type@0:15+4) p@1:29+1)]"),
-    ("void f(void){ a ? b : c ? d : e; }", "[;@7:15+10 (?@6:15+9 a@0:15+1 b@1:19+1 (?@5:23+5 c@2:23+1 d@3:27+1 e@4:31+1))]"),
-    ("void f(void){ a = b = c; }", "[;@5:15+6 (=@4:15+5 a@0:15+1 (=@3:19+3 b@1:19+1 c@2:23+1))]"),
-    ("void f(void){ a, g(b, 1)[c]; }", "[;@7:15+12 (,@6:15+11 a@0:15+1 ([]@5:18+9 (g()@3:18+6 b@1:20+1 1@2:23+1) c@4:26+1))]"),
-    ("void f(void){ - -a[0]; }", "[;@5:15+7 (Minus@4:15+6 (Minus@3:17+5 ([]@2:18+4 a@0:18+1 0@1:20+1)))]"),
-    ("void f(void){ if (a) if (b) ; else ; }", "[if@5:15+11 a@0:19+1 [if@4:22+7 b@1:26+1 [;@2:29+1 ] else [;@3:36+1 ]]]"),
-    ("void f(void){ for (int i = 0;;) ; }", "[for@3:15+10 object@1:20+5;; [;@2:33+1 ]]"),
+    (
+        "void f(void){ (a) + b; }",
+        "[;@3:15+6 (Add@2:15+5 a@0:16+1 b@1:21+1)]",
+    ),
+    (
+        "void f(void){ a - b - c; }",
+        "[;@5:15+6 (Subtract@4:15+5 (Subtract@2:15+3 a@0:15+1 b@1:19+1) c@3:23+1)]",
+    ),
+    (
+        "void f(void){ a + b * c; }",
+        "[;@5:15+6 (Add@4:15+5 a@0:15+1 (Multiply@3:19+3 b@1:19+1 c@2:23+1))]",
+    ),
+    (
+        "void f(void){ (a) = 1; }",
+        "[;@3:15+6 (=@2:15+5 a@0:16+1 1@1:21+1)]",
+    ),
+    (
+        "void f(void){ (int)(a); }",
+        "[;@2:15+7 (cast@1:15+6 a@0:21+1)]",
+    ),
+    (
+        "void f(void){ sizeof(int) * p; }",
+        "[;@3:15+7 (Multiply@2:15+6 (sizeof type@0:15+4) p@1:29+1)]",
+    ),
+    (
+        "void f(void){ a ? b : c ? d : e; }",
+        "[;@7:15+10 (?@6:15+9 a@0:15+1 b@1:19+1 (?@5:23+5 c@2:23+1 d@3:27+1 e@4:31+1))]",
+    ),
+    (
+        "void f(void){ a = b = c; }",
+        "[;@5:15+6 (=@4:15+5 a@0:15+1 (=@3:19+3 b@1:19+1 c@2:23+1))]",
+    ),
+    (
+        "void f(void){ a, g(b, 1)[c]; }",
+        "[;@7:15+12 (,@6:15+11 a@0:15+1 ([]@5:18+9 (g()@3:18+6 b@1:20+1 1@2:23+1) c@4:26+1))]",
+    ),
+    (
+        "void f(void){ - -a[0]; }",
+        "[;@5:15+7 (Minus@4:15+6 (Minus@3:17+5 ([]@2:18+4 a@0:18+1 0@1:20+1)))]",
+    ),
+    (
+        "void f(void){ if (a) if (b) ; else ; }",
+        "[if@5:15+11 a@0:19+1 [if@4:22+7 b@1:26+1 [;@2:29+1 ] else [;@3:36+1 ]]]",
+    ),
+    (
+        "void f(void){ for (int i = 0;;) ; }",
+        "[for@3:15+10 object@1:20+5;; [;@2:33+1 ]]",
+    ),
 ];
 
 const FAULTS: [(&str, &str); 20] = [

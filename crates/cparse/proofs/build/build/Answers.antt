@@ -1,8 +1,7 @@
 -- The builder's loop.
-use Rattle.std.proofs.Common.{◌≡◌, ◌∙◌, Bool, true, false, [], ◌∷◌, Some, None, sym, ap, subst, refl, arith, length, get_or}
+use Rattle.std.proofs.Common.{◌≡◌, [], ◌∷◌, None, ap, subst, arith, length, get_or}
 use Rattle.cgrammar.specs.declared.production.Production.TheVariants as make
 use Rattle.creader.specs.declared.reader.Entry.{Entry}
-use Rattle.creader.specs.Entries as creader
 use Rattle.cparse.specs.Build as specs
 use Rattle.cparse.specs.Builder.{built_of, Steps}
 use Rattle.cparse.specs.Value.{bare_values}

@@ -1,5 +1,5 @@
 -- What the parser answers at each of its exits.
-use Rattle.std.proofs.Common.{◌≡◌, ◌∙◌, ◌+◌, ◌-◌, ◌*◌, ◌<◌, ℕ, List, Option, Some, None, length, get_or, sym, ap, subst, refl, arith, Fits, w64, ◌≤◌, ◌∷◌, [], length-append}
+use Rattle.std.proofs.Common.{◌≡◌, ◌∙◌, ◌+◌, ◌-◌, ◌<◌, List, Some, None, length, get_or, sym, ap, subst, arith, ◌≤◌, ◌∷◌, [], length-append}
 use Rattle.std.specs.Prelude.{slice_get}
 use Rattle.std.specs.Option.{option_map}
 use Rattle.csyn.specs.declared.token.Token.{Token}

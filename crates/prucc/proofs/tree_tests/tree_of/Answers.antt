@@ -8,7 +8,7 @@ use Rattle.prucc.proofs.tree_tests.tree_of.Goals as goal
 pub parse-requires-clause-few : goal.parse-requires-clause-few
 parse-requires-clause-few c =
     subst (λ (ts : List Token). length ts ≤ 100001) (sym c.deref.ensures.value)
-        (let few = few_tokens c.in_ok-tokens.tokens.items c.args.source.now c.in_ok-tokens.ensures.spelled in omega (arith, few, c.requires))
+    (let few = few_tokens c.in_ok-tokens.tokens.items c.args.source.now c.in_ok-tokens.ensures.spelled in omega (arith, few, c.requires))
 
 pub parse-requires-clause-ends : goal.parse-requires-clause-ends
 parse-requires-clause-ends c =

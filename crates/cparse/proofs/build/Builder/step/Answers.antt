@@ -1,5 +1,5 @@
 -- One production made of the last values.
-use Rattle.std.proofs.Common.{◌≡◌, Bool, true, false, Option, Some, None, sym, ap, subst, refl, ◌∙◌, ◌∷◌, ◌+◌, add-zero}
+use Rattle.std.proofs.Common.{true, false, Some, sym, ap, ◌∙◌, ◌∷◌, ◌+◌, add-zero}
 use Rattle.cparse.specs.Build.{built}
 use Rattle.cparse.specs.Value.{bare_values}
 use Rattle.cparse.proofs.StepMade.{step-none, step-some}
