@@ -1,8 +1,9 @@
-pub mod TreeForm
-pub mod Tokens
-pub mod SourceParts
+pub mod FormNumbers
+pub mod FormRest
+pub mod FormLoop
 pub mod RunSteps
 pub mod SixWords
 pub mod Told
 pub mod TopBuild
+pub mod Front
 pub mod TopRun

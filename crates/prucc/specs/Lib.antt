@@ -1,6 +1,5 @@
 pub mod Form
-pub mod Source
-pub mod SourceAnswer
+pub mod FormReading
 pub mod Core
 pub mod Part
 pub mod Meaning
