@@ -1,1 +1,14 @@
-void main(void){ __R30 = 1; __R30 = 2; __R30 = 4; __R30 = 8; __R30 = 16; __R30 = 32; __R30 = 64; __R30 = 128; __R30 = 0; __halt(); }
+/* One lit pin, from pin 0 up to pin 7. */
+void main(void)
+{
+    __R30 = 0x01;
+    __R30 = 0x02;
+    __R30 = 0x04;
+    __R30 = 0x08;
+    __R30 = 0x10;
+    __R30 = 0x20;
+    __R30 = 0x40;
+    __R30 = 0x80;
+    __R30 = 0; // all pins off
+    __halt();
+}

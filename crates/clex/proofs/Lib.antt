@@ -12,3 +12,4 @@ pub mod Causes
 pub mod TextLemmas
 pub mod Loop
 pub mod Longest
+pub mod Either

@@ -72,7 +72,7 @@ goes_on text rest left place tokens kind so_far some read =
     } in
     subst (λ (b : List ℕ). SoFar text left (after_piece place (record { kind = kind; bytes = b })) (tokens ++ with_token place kind [])) taken next
 
-stops_at : (text rest : List ℕ) (place : Place) (tokens : List Token) (cause : Cause) → SoFar text rest place tokens → 0 < length rest → piece_at rest ≡ Err cause → IsFault text place.span cause
+pub stops_at : (text rest : List ℕ) (place : Place) (tokens : List Token) (cause : Cause) → SoFar text rest place tokens → 0 < length rest → piece_at rest ≡ Err cause → IsFault text place.span cause
 stops_at text [] place tokens cause so_far some read = absurd (omega arith)
 stops_at text (b ∷ behind) place tokens cause so_far some read =
     let breaks : Breaks cause (b ∷ behind) = record {

@@ -13,7 +13,7 @@ mod quoted;
 mod span;
 mod table;
 
-pub use laws::{longest_match, one_reading};
+pub use laws::{longest_match, one_reading, tokens_or_fault};
 pub use lexer::tokens;
 
 #[cfg(test)]

@@ -1,11 +1,11 @@
-mod Steps
+pub mod Steps
 mod Locality
-mod Kinds
+pub mod Kinds
 mod Samples
 mod Done
 mod Goes
 mod Table
 mod Checks
-mod Completion
+pub mod Completion
 mod Standing
 pub mod First

@@ -1,5 +1,6 @@
 mod Complete
 mod Fault
 mod Both
+mod Either
 mod Reading
 mod Sound

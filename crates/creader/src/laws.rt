@@ -1,4 +1,4 @@
-ghost use Rattle.std.specs.Prelude.{◌≡◌, ◌-◌, ◌<◌, ◌⊎◌, List, [], ◌∷◌, length, None};
+ghost use Rattle.std.specs.Prelude.{◌≡◌, ◌-◌, ◌<◌, ◌⊎◌, ℕ, List, [], ◌∷◌, length, None};
 ghost use Rattle.csyn.specs.declared.token.Token.{Token};
 ghost use Rattle.creader.specs.declared.part.Symbol.{Symbol};
 ghost use Rattle.cgrammar.specs.Text.{Written, IsText, IsFirstFault};
@@ -26,4 +26,10 @@ pub fn first_fault()
 /// A source is the text of one tree only.
 pub fn one_text()
     ensures { (tokens : List Token) (a b : Written) → IsText a tokens → IsText b tokens → a ≡ b }
+{}
+
+/// Each list of tokens that ends with its end token is a source, or has a first token that can't stand.
+pub fn text_or_fault()
+    ensures { (tokens : List Token) → EndsOnce tokens
+        → ((written : Written) × IsText written tokens) ⊎ ((place : ℕ) × IsFirstFault tokens place) }
 {}

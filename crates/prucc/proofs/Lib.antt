@@ -1,9 +1,10 @@
-pub mod FormNumbers
-pub mod FormRest
-pub mod FormLoop
+pub mod TreeForm
+pub mod BareForm
+pub mod Tokens
+pub mod Verdict
+pub mod SourceParts
 pub mod RunSteps
 pub mod SixWords
 pub mod Told
 pub mod TopBuild
-pub mod Front
 pub mod TopRun

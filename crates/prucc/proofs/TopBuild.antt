@@ -9,14 +9,14 @@ use Rattle.prutrace.specs.Text.{events_of, events_text}
 use Rattle.prucc.specs.declared.machine.Stop.{Stop}
 use Rattle.prucc.specs.declared.run.Outcome.{Outcome}
 use Rattle.prucc.specs.declared.status.Status.{Status}
-use Rattle.prucc.specs.declared.status.Status.TheVariants.{Done, Words, ReadFault, WriteFault, NoMemory, NotBuilt}
+use Rattle.prucc.specs.declared.status.Status.TheVariants.{Done, Source, Words, ReadFault, WriteFault, TooLong, NoMemory, NotBuilt}
 use Rattle.prucc.specs.declared.top.Inputs.{Inputs}
-use Rattle.prucc.specs.Form.{Writes}
+use Rattle.prucc.specs.Source.{Writes}
 use Rattle.prucc.specs.Meaning.{meaning, shown_in, event_count}
 use Rattle.prucc.specs.Run.{stamped_from, ShowsMeaning}
 use Rattle.prucc.specs.Request.{Asked}
 use Rattle.prucc.specs.Summary.{core_line, summary_line}
-use Rattle.prucc.specs.Answers.{OfZero, OfOne, events_file}
+use Rattle.prucc.specs.Answers.{OfZero, OfOne, InZero, InOne, events_file}
 use Rattle.prucc.specs.RunAnswer.{SourceFails, BuildFails}
 
 pub events_stamped : (cycle : ℕ) (es : List Event) → events_of (stamped_from cycle es) ≡ es
@@ -45,18 +45,22 @@ events_are n ks0 ks1 zero one h k =
 
 -- ---- refusals
 
-pub zero_fails : (r : Asked) (inputs : Inputs) (s : Status) → inputs.script.items ≡ [] → SourceFails r.zero inputs.zero.items s → BuildFails r inputs s
-zero_fails r inputs (NotBuilt file line column) empty h = OfZero empty h.1.0 h.1.1 h.0 h.1.2
+pub zero_fails : (r : Asked) (inputs : Inputs) (s : Status) → inputs.script.items ≡ [] → SourceFails 0 r.zero inputs.zero.items s → BuildFails r inputs s
+zero_fails r inputs (NotBuilt file span) empty h = OfZero empty h.1 h.0
+zero_fails r inputs (Source core span cause) empty h = InZero empty h.0 h.1
 zero_fails r inputs NoMemory empty h = tt
 zero_fails r inputs Done empty h = h
 zero_fails r inputs Words empty h = h
 zero_fails r inputs (ReadFault file) empty h = h
 zero_fails r inputs (WriteFault file) empty h = h
+zero_fails r inputs (TooLong file max) empty h = h
 
-pub one_fails : (r : Asked) (inputs : Inputs) (ks : List ℕ) (s : Status) → inputs.script.items ≡ [] → Writes inputs.zero.items ks → SourceFails r.one inputs.one.items s → BuildFails r inputs s
-one_fails r inputs ks (NotBuilt file line column) empty zero h = OfOne empty ks zero h.1.0 h.1.1 h.0 h.1.2
+pub one_fails : (r : Asked) (inputs : Inputs) (ks : List ℕ) (s : Status) → inputs.script.items ≡ [] → Writes inputs.zero.items ks → SourceFails 1 r.one inputs.one.items s → BuildFails r inputs s
+one_fails r inputs ks (NotBuilt file span) empty zero h = OfOne empty ks zero h.1 h.0
+one_fails r inputs ks (Source core span cause) empty zero h = InOne empty ks zero h.0 h.1
 one_fails r inputs ks NoMemory empty zero h = tt
 one_fails r inputs ks Done empty zero h = h
 one_fails r inputs ks Words empty zero h = h
 one_fails r inputs ks (ReadFault file) empty zero h = h
 one_fails r inputs ks (WriteFault file) empty zero h = h
+one_fails r inputs ks (TooLong file max) empty zero h = h

@@ -1,35 +1,87 @@
 -- The parts of a run, put together.
 use Rattle.std.proofs.Common.{◌≡◌, ℕ, ◌≤◌, List, Option, Some, None, ◌⊎◌, refl, sym, ap, subst, ◌∙◌, inl, inr, arith}
 use Rattle.std.specs.String.{string_bytes}
-use Rattle.fileset.specs.Told.{Held, Tells, IsSameFiles, IsCutShort, AppendsFront}
+use Rattle.csyn.specs.declared.span.Span.{Span}
+use Rattle.csyn.specs.declared.cause.Cause.{Cause}
+use Rattle.fileset.specs.Told.{Held, content, Tells, IsSameFiles, IsCutShort, AppendsFront}
 use Rattle.fileset.specs.Faults.{Rose}
 use Rattle.prucc.specs.declared.status.Status.{Status}
-use Rattle.prucc.specs.declared.status.Status.TheVariants.{Done, Words, ReadFault, WriteFault, NoMemory, NotBuilt}
+use Rattle.prucc.specs.declared.status.Status.TheVariants.{Done, Source, Words, ReadFault, WriteFault, TooLong, NoMemory, NotBuilt}
 use Rattle.prucc.specs.declared.top.Inputs.{Inputs}
 use Rattle.prucc.specs.declared.top.Output.{Output}
 use Rattle.prucc.specs.Request.{Asked, Asks, events_name}
-use Rattle.prucc.specs.Answers.{AskFor, IsNotBuiltFrom, events_file, WroteEvents, HasTaken, IsUntouched, Finishes, FailedFile, FailedSink, sink_name}
-use Rattle.prucc.specs.RunAnswer.{HoldsInputs, Builds, BuildFails, HoldsFile, CutsFile, WriteFails, PutFails, AtFile, AtSink, RunFails}
+use Rattle.prucc.specs.Answers.{AskFor, AreWithin, IsBuilt, NotBuiltAt, BrokenAt, InZero, InOne, IsBuiltFrom, IsNotBuiltFrom, IsBrokenFrom, IsCore, events_file, WroteEvents, HasTaken, IsUntouched, Finishes, FailedFile, FailedSink, sink_name}
+use Rattle.prucc.specs.RunAnswer.{InputFails, HoldsInputs, Builds, BuildFails, HoldsFile, CutsFile, WriteFails, PutFails, AtFile, AtSink, RunFails}
 use Rattle.prucc.proofs.Told.{Tells-then, Tells-weaker, same_twice}
-use Rattle.prucc.proofs.Front.{built_whole, not_built_whole}
 
 pub untouched_as_is : (taken : Option (List ℕ)) → IsUntouched taken taken
 untouched_as_is None = tt
 untouched_as_is (Some text) = refl
 
+-- ---- of the files that were held
+
+abbrev Three : Type 1
+Three = List ℕ → List ℕ → List ℕ → Type 0
+
+-- what holds of the three inputs holds of the files
+held_so : (r : Asked) (inputs : Inputs) (x y : Held) (P : Three) → HoldsInputs r inputs x y → P inputs.script.items inputs.zero.items inputs.one.items → P (content x r.script) (content x r.zero) (content x r.one)
+held_so r inputs x y P h is =
+    subst (λ (script : List ℕ). P script (content x r.zero) (content x r.one)) h.script
+    (subst (λ (zero : List ℕ). P inputs.script.items zero (content x r.one)) h.zero
+    (subst (λ (one : List ℕ). P inputs.script.items inputs.zero.items one) h.one is))
+
+built_whole : (r : Asked) (inputs : Inputs) (ks0 ks1 : List ℕ) (x y : Held) → HoldsInputs r inputs x y → IsBuilt inputs.script.items inputs.zero.items inputs.one.items ks0 ks1 → IsBuiltFrom x r ks0 ks1
+built_whole r inputs ks0 ks1 x y h built = held_so r inputs x y (λ script zero one. IsBuilt script zero one ks0 ks1) h built
+
+-- ---- a read fails
+
+pub input_fails : (words : List (List ℕ)) (r : Asked) (held now : Option Held) (f0 f1 : ℕ) (taken : Option (List ℕ)) (g0 : ℕ) (s : Status) → Asks words r → Tells held now IsSameFiles → InputFails r held now f0 f1 s
+    → RunFails words held now f0 f1 taken taken g0 g0 s
+input_fails words r held now f0 f1 taken g0 (ReadFault name) asks same fails = ((r, asks, fails), record { files = same; sink = untouched_as_is taken })
+input_fails words r held now f0 f1 taken g0 (TooLong name max) asks same fails = ((r, asks, fails), record { files = same; sink = untouched_as_is taken })
+input_fails words r held now f0 f1 taken g0 NoMemory asks same fails = record { files = same; sink = untouched_as_is taken }
+input_fails words r held now f0 f1 taken g0 Done asks same fails = fails
+input_fails words r held now f0 f1 taken g0 (Source core span cause) asks same fails = absurd fails
+input_fails words r held now f0 f1 taken g0 Words asks same fails = absurd fails
+input_fails words r held now f0 f1 taken g0 (WriteFault name) asks same fails = absurd fails
+input_fails words r held now f0 f1 taken g0 (NotBuilt name span) asks same fails = absurd fails
+
 -- ---- nothing is built
 
-pub build_fails : (words : List (List ℕ)) (r : Asked) (inputs : Inputs) (held now : Option Held) (f0 f1 : ℕ) (taken : Option (List ℕ)) (g0 : ℕ) (s : Status) → Asks words r → Tells held now (HoldsInputs r inputs) → Tells held now IsSameFiles
+core_of : (script zero one : List ℕ) (core : ℕ) (span : Span) (cause : Cause) → BrokenAt script zero one core span cause → IsCore core
+core_of script zero one core span cause (InZero _ is _) = inl is
+core_of script zero one core span cause (InOne _ _ _ is _) = inr is
+
+pub build_fails : (words : List (List ℕ)) (r : Asked) (inputs : Inputs) (held now : Option Held) (f0 f1 : ℕ) (taken : Option (List ℕ)) (g0 : ℕ) (s : Status) → Asks words r
+    → AreWithin inputs.script.items inputs.zero.items inputs.one.items → Tells held now (HoldsInputs r inputs) → Tells held now IsSameFiles
     → BuildFails r inputs s → RunFails words held now f0 f1 taken taken g0 g0 s
-build_fails words r inputs held now f0 f1 taken g0 (NotBuilt name line column) asks told same fails = (
-  (r, asks, Tells-weaker held now (HoldsInputs r inputs) (λ before _. IsNotBuiltFrom before r name line column) (λ before after h. not_built_whole r inputs name line column before after h fails) told),
+build_fails words r inputs held now f0 f1 taken g0 (NotBuilt name span) asks within told same fails = (
+  (
+    r,
+    asks,
+    Tells-weaker held now (HoldsInputs r inputs) (λ before _. IsNotBuiltFrom before r name span)
+        (λ x y h. held_so r inputs x y (λ script zero one. AreWithin script zero one × NotBuiltAt r script zero one name span) h (within, fails)) told,
+  ),
   record { files = same; sink = untouched_as_is taken },
 )
-build_fails words r inputs held now f0 f1 taken g0 NoMemory asks told same fails = record { files = same; sink = untouched_as_is taken }
-build_fails words r inputs held now f0 f1 taken g0 Done asks told same fails = fails
-build_fails words r inputs held now f0 f1 taken g0 Words asks told same fails = absurd fails
-build_fails words r inputs held now f0 f1 taken g0 (ReadFault name) asks told same fails = absurd fails
-build_fails words r inputs held now f0 f1 taken g0 (WriteFault name) asks told same fails = absurd fails
+build_fails words r inputs held now f0 f1 taken g0 (Source core span cause) asks within told same fails = (
+  (
+    r,
+    asks,
+    (
+      core_of inputs.script.items inputs.zero.items inputs.one.items core span cause fails,
+      Tells-weaker held now (HoldsInputs r inputs) (λ before _. IsBrokenFrom before r core span cause)
+          (λ x y h. held_so r inputs x y (λ script zero one. AreWithin script zero one × BrokenAt script zero one core span cause) h (within, fails)) told,
+    ),
+  ),
+  record { files = same; sink = untouched_as_is taken },
+)
+build_fails words r inputs held now f0 f1 taken g0 NoMemory asks within told same fails = record { files = same; sink = untouched_as_is taken }
+build_fails words r inputs held now f0 f1 taken g0 Done asks within told same fails = fails
+build_fails words r inputs held now f0 f1 taken g0 Words asks within told same fails = absurd fails
+build_fails words r inputs held now f0 f1 taken g0 (ReadFault name) asks within told same fails = absurd fails
+build_fails words r inputs held now f0 f1 taken g0 (WriteFault name) asks within told same fails = absurd fails
+build_fails words r inputs held now f0 f1 taken g0 (TooLong name max) asks within told same fails = absurd fails
 
 -- ---- the write of the events
 
@@ -59,7 +111,9 @@ write_fails words r inputs output name held mid now f0 f1 f2 taken g0 NoMemory a
 write_fails words r inputs output name held mid now f0 f1 f2 taken g0 Done asks name_is told same le builds fails = fails
 write_fails words r inputs output name held mid now f0 f1 f2 taken g0 Words asks name_is told same le builds fails = absurd fails
 write_fails words r inputs output name held mid now f0 f1 f2 taken g0 (ReadFault file) asks name_is told same le builds fails = absurd fails
-write_fails words r inputs output name held mid now f0 f1 f2 taken g0 (NotBuilt file line column) asks name_is told same le builds fails = absurd fails
+write_fails words r inputs output name held mid now f0 f1 f2 taken g0 (NotBuilt file span) asks name_is told same le builds fails = absurd fails
+write_fails words r inputs output name held mid now f0 f1 f2 taken g0 (Source core span cause) asks name_is told same le builds fails = absurd fails
+write_fails words r inputs output name held mid now f0 f1 f2 taken g0 (TooLong file max) asks name_is told same le builds fails = absurd fails
 
 -- ---- the lines
 
@@ -100,7 +154,9 @@ put_fails words r inputs output name sink held mid now f0 f2 taken later g0 g1 N
 put_fails words r inputs output name sink held mid now f0 f2 taken later g0 g1 Done asks name_is sink_is told builds written fails = fails
 put_fails words r inputs output name sink held mid now f0 f2 taken later g0 g1 Words asks name_is sink_is told builds written fails = absurd fails
 put_fails words r inputs output name sink held mid now f0 f2 taken later g0 g1 (ReadFault file) asks name_is sink_is told builds written fails = absurd fails
-put_fails words r inputs output name sink held mid now f0 f2 taken later g0 g1 (NotBuilt file line column) asks name_is sink_is told builds written fails = absurd fails
+put_fails words r inputs output name sink held mid now f0 f2 taken later g0 g1 (NotBuilt file span) asks name_is sink_is told builds written fails = absurd fails
+put_fails words r inputs output name sink held mid now f0 f2 taken later g0 g1 (Source core span cause) asks name_is sink_is told builds written fails = absurd fails
+put_fails words r inputs output name sink held mid now f0 f2 taken later g0 g1 (TooLong file max) asks name_is sink_is told builds written fails = absurd fails
 
 -- ---- words that ask for nothing
 
@@ -110,4 +166,6 @@ only_words words held now f0 f1 taken later g0 g1 NoMemory none fails = inr refl
 only_words words held now f0 f1 taken later g0 g1 Done none fails = absurd fails
 only_words words held now f0 f1 taken later g0 g1 (ReadFault name) none fails = absurd (none fails.0.0 fails.0.1)
 only_words words held now f0 f1 taken later g0 g1 (WriteFault name) none fails = absurd (none fails.0 fails.1)
-only_words words held now f0 f1 taken later g0 g1 (NotBuilt name line column) none fails = absurd (none fails.0.0 fails.0.1)
+only_words words held now f0 f1 taken later g0 g1 (NotBuilt name span) none fails = absurd (none fails.0.0 fails.0.1)
+only_words words held now f0 f1 taken later g0 g1 (Source core span cause) none fails = absurd (none fails.0.0 fails.0.1)
+only_words words held now f0 f1 taken later g0 g1 (TooLong name max) none fails = absurd (none fails.0.0 fails.0.1)

@@ -1,5 +1,6 @@
 pub mod Form
-pub mod FormReading
+pub mod Source
+pub mod SourceAnswer
 pub mod Core
 pub mod Part
 pub mod Meaning

@@ -1,51 +1,55 @@
 -- The answers of the parts of a run: inner words of `top`.
-use Rattle.std.specs.Prelude.{◌≡◌, ℕ, ◌+◌, List, take, Option, Some}
+use Rattle.std.specs.Prelude.{◌≡◌, ℕ, ◌<◌, List, length, Option, Some}
+use Rattle.csyn.specs.declared.span.Span.{Span}
 use Rattle.std.specs.String.{string_bytes}
 use Rattle.fileset.specs.Told.{Held, content, Tells, IsSameFiles, IsSameButFor, IsCutShort, AppendsFront}
 use Rattle.fileset.specs.Faults.{Rose}
 use Rattle.prucc.specs.declared.status.Status.{Status}
-use Rattle.prucc.specs.declared.status.Status.TheVariants.{Done, Words, ReadFault, WriteFault, NoMemory, NotBuilt}
+use Rattle.prucc.specs.declared.status.Status.TheVariants.{Done, Source, Words, ReadFault, WriteFault, TooLong, NoMemory, NotBuilt}
 use Rattle.prucc.specs.declared.top.Inputs.{Inputs}
 use Rattle.prucc.specs.declared.top.Output.{Output}
-use Rattle.prucc.specs.Form.{DepartsAt}
+use Rattle.prucc.specs.Source.{IsSourceFault, IsUnbuilt}
 use Rattle.prucc.specs.Summary.{summary_text}
 use Rattle.prucc.specs.Request.{Asked, Asks, events_name}
-use Rattle.prucc.specs.Answers.{AskFor, IsBuilt, IsBehind, NotBuiltAt, IsNotBuiltFrom, events_file, IsUntouched, FailedFile, FailedSink, IsInput, sink_name}
+use Rattle.prucc.specs.Answers.{AskFor, IsBuilt, NotBuiltAt, BrokenAt, IsNotBuiltFrom, IsBrokenFrom, IsLongFrom, IsCore, events_file, IsUntouched, FailedFile, FailedSink, IsInput, IsMost, sink_name}
 
--- why a read fails
-abbrev pub ReadFails : List ℕ → ℕ → ℕ → Status → Type 0
-ReadFails name before now (ReadFault file) = (file ≡ name) × Rose before now
-ReadFails name before now NoMemory = Unit {0}
-ReadFails name before now other = ⊥
+-- why a read fails: the files failed, or the file has more than its most bytes
+abbrev pub ReadFails : List ℕ → ℕ → Option Held → Option Held → ℕ → ℕ → Status → Type 0
+ReadFails name most held now before after (ReadFault file) = (file ≡ name) × Rose before after
+ReadFails name most held now before after (TooLong file max) = (file ≡ name) × (max ≡ most) × Tells held now (λ held _. most < length (content held name))
+ReadFails name most held now before after NoMemory = Unit {0}
+ReadFails name most held now before after other = ⊥
 
--- the first bytes of the file, and no file has changed
-pub record HoldsFront (bytes name : List ℕ) (max : ℕ) (before after : Held) : Type 0 where
-  pub front : bytes ≡ take (max + 1) (content before name)
+-- the bytes of the file, and no file has changed
+pub record Holds (bytes name : List ℕ) (before after : Held) : Type 0 where
+  pub whole : bytes ≡ content before name
   pub same : IsSameFiles before after
 
-abbrev pub InputFails : Asked → ℕ → ℕ → Status → Type 0
-InputFails r before now (ReadFault file) = IsInput r file × Rose before now
-InputFails r before now NoMemory = Unit {0}
-InputFails r before now other = ⊥
+abbrev pub InputFails : Asked → Option Held → Option Held → ℕ → ℕ → Status → Type 0
+InputFails r held now before after (ReadFault file) = IsInput r file × Rose before after
+InputFails r held now before after (TooLong file max) = IsMost r file max × Tells held now (λ held _. IsLongFrom held r file max)
+InputFails r held now before after NoMemory = Unit {0}
+InputFails r held now before after other = ⊥
 
--- the three files as far as they are read, and no file has changed
+-- the three files, and no file has changed
 pub record HoldsInputs (r : Asked) (inputs : Inputs) (before after : Held) : Type 0 where
-  pub zero : inputs.zero.items ≡ take 65537 (content before r.zero)
-  pub one : inputs.one.items ≡ take 65537 (content before r.one)
-  pub script : inputs.script.items ≡ take 1048577 (content before r.script)
+  pub zero : inputs.zero.items ≡ content before r.zero
+  pub one : inputs.one.items ≡ content before r.one
+  pub script : inputs.script.items ≡ content before r.script
   pub same : IsSameFiles before after
 
--- what isn't built stands behind so many bytes of the file
-abbrev pub NotBuiltBehind : List ℕ → ℕ → Status → Type 0
-NotBuiltBehind name at (NotBuilt file line column) = (file ≡ name) × IsBehind at line column
-NotBuiltBehind name at NoMemory = Unit {0}
-NotBuiltBehind name at other = ⊥
+-- a file isn't built from this place on
+abbrev pub NotBuiltIn : List ℕ → Span → Status → Type 0
+NotBuiltIn name span (NotBuilt file place) = (file ≡ name) × (place ≡ span)
+NotBuiltIn name span NoMemory = Unit {0}
+NotBuiltIn name span other = ⊥
 
--- why a source isn't built
-abbrev pub SourceFails : List ℕ → List ℕ → Status → Type 0
-SourceFails name source (NotBuilt file line column) = (file ≡ name) × ((p : ℕ) × DepartsAt source p × IsBehind p line column)
-SourceFails name source NoMemory = Unit {0}
-SourceFails name source other = ⊥
+-- why the source of a core isn't built
+abbrev pub SourceFails : ℕ → List ℕ → List ℕ → Status → Type 0
+SourceFails core name source (Source number span cause) = (number ≡ core) × IsSourceFault source span cause
+SourceFails core name source (NotBuilt file span) = (file ≡ name) × IsUnbuilt source span
+SourceFails core name source NoMemory = Unit {0}
+SourceFails core name source other = ⊥
 
 -- what a run of the inputs writes
 pub record Builds (r : Asked) (inputs : Inputs) (output : Output) : Type 0 where
@@ -56,7 +60,8 @@ pub record Builds (r : Asked) (inputs : Inputs) (output : Output) : Type 0 where
   pub summary : string_bytes output.summary ≡ summary_text r.cycles ks0 ks1
 
 abbrev pub BuildFails : Asked → Inputs → Status → Type 0
-BuildFails r inputs (NotBuilt name line column) = NotBuiltAt r inputs.script.items inputs.zero.items inputs.one.items name line column
+BuildFails r inputs (Source core span cause) = BrokenAt inputs.script.items inputs.zero.items inputs.one.items core span cause
+BuildFails r inputs (NotBuilt name span) = NotBuiltAt r inputs.script.items inputs.zero.items inputs.one.items name span
 BuildFails r inputs NoMemory = Unit {0}
 BuildFails r inputs other = ⊥
 
@@ -95,8 +100,12 @@ pub record IsSame (held now : Option Held) (taken later : Option (List ℕ)) : T
 abbrev pub RunFails : List (List ℕ) → Option Held → Option Held → ℕ → ℕ → Option (List ℕ) → Option (List ℕ) → ℕ → ℕ → Status → Type 0
 RunFails words held now faults after taken later sink_faults sink_after Words = ((r : Asked) → Asks words r → ⊥) × IsSame held now taken later
 RunFails words held now faults after taken later sink_faults sink_after (ReadFault file) = AskFor words (λ r. IsInput r file × Rose faults after) × IsSame held now taken later
-RunFails words held now faults after taken later sink_faults sink_after (NotBuilt name line column) =
-    AskFor words (λ r. Tells held now (λ before _. IsNotBuiltFrom before r name line column)) × IsSame held now taken later
+RunFails words held now faults after taken later sink_faults sink_after (TooLong file max) =
+    AskFor words (λ r. IsMost r file max × Tells held now (λ before _. IsLongFrom before r file max)) × IsSame held now taken later
+RunFails words held now faults after taken later sink_faults sink_after (Source core span cause) =
+    AskFor words (λ r. IsCore core × Tells held now (λ before _. IsBrokenFrom before r core span cause)) × IsSame held now taken later
+RunFails words held now faults after taken later sink_faults sink_after (NotBuilt name span) =
+    AskFor words (λ r. Tells held now (λ before _. IsNotBuiltFrom before r name span)) × IsSame held now taken later
 RunFails words held now faults after taken later sink_faults sink_after (WriteFault file) = AskFor words (λ r. OutputFails r file held now faults after taken later sink_faults sink_after)
 RunFails words held now faults after taken later sink_faults sink_after NoMemory = IsSame held now taken later
 RunFails words held now faults after taken later sink_faults sink_after Done = ⊥

@@ -1,21 +1,25 @@
-ghost use Rattle.std.specs.Prelude.{◌≡◌, ◌<◌, ◌↔◌, IsTrue, length};
-ghost use Rattle.prucc.specs.FormReading.{IsWithin, fixed_text, behind, moved, within, first_digit, more_digits, step_of, Reads};
-ghost use Rattle.prucc.specs.declared.form.FormFault.TheVariants.{Memory};
-ghost use Rattle.prucc.specs.declared.form.Place.TheVariants.{End};
+//! The one form of tree that is compiled so far.
 
+ghost use Rattle.std.specs.Prelude.{◌≡◌, ℕ, List, IfOk, IfErr, Some, is_some, nat_lt, if◌then◌else◌, None};
+ghost use Rattle.prucc.specs.declared.form.FormFault.TheVariants.{Memory};
+ghost use Rattle.prucc.specs.Form as form;
+ghost use Rattle.prucc.specs.SourceAnswer.{BodyFails, FormFails, MainOf, ReadsAs, first_begin};
+ghost use Rattle.std.specs.Option.{option_copied};
+
+use csyn::{
+    Base, CType, ExprKind, Exprs, Head, Items, Parameters, Pointers, Span, StmtKind, Tree,
+    UnitKind, Units,
+};
 use std::alloc::{AllocError, AllocFailed, Global};
-use thiserror::Error;
 
 /// How many constants a source may write: with the halt they fill the core's 2,048 words.
 const MOST_WRITES: usize = 2047;
 
-/// Why a source was not read.
-#[derive(Clone, Copy, Debug, PartialEq, Eq, Error)]
+/// Why a tree gives no writes.
+#[derive(Clone, Copy, Debug, PartialEq, Eq)]
 pub enum FormFault {
-    /// No text of the form begins with more of the source than this number of bytes.
-    #[error("not of the form behind byte {0}")]
-    At(usize),
-    #[error("memory")]
+    /// The tree departs from the form here.
+    At(Span),
     Memory,
 }
 
@@ -35,155 +39,189 @@ impl<T: Drop> From<AllocFailed<T>> for FormFault {
     }
 }
 
-/// The parts of a source that are the same in each. A write and the halt begin alike, so the parts are cut
-/// behind what they have in common.
-#[derive(Clone, Copy)]
-enum Fixed {
-    Head,
-    Write,
-    Between,
-    Halt,
-}
-
-impl Fixed {
-    fn text(self) -> &'static [u8]
-        ensures { result.now ≡ fixed_text self }
-    {
-        match self {
-            Fixed::Head => b"void main(void){ __",
-            Fixed::Write => b"30 = ",
-            Fixed::Between => b" __",
-            Fixed::Halt => b"alt(); }",
-        }
-    }
-
-    fn behind(self) -> Place
-        ensures { result ≡ behind self }
-    {
-        match self {
-            Fixed::Head | Fixed::Between => Place::Choice,
-            Fixed::Write => Place::Number,
-            Fixed::Halt => Place::End,
-        }
-    }
-
-    fn step(self, at: usize, byte: u8) -> Option<Step>
-        requires { at < length (fixed_text self) }
-        ensures { result ≡ within self at byte }
-    {
-        let text = self.text();
-        if byte != text[at] {
-            return None;
-        }
-        Step::to(if at + 1 == text.len() {
-            self.behind()
-        } else {
-            Place::Within(self, at + 1)
-        })
-    }
-}
-
-/// What stands before a place in a source.
-#[derive(Clone, Copy)]
-enum Place {
-    /// So many bytes of a fixed part.
-    Within(Fixed, usize),
-    /// All up to where a write or the halt goes on.
-    Choice,
-    /// A write up to its number.
-    Number,
-    /// The first digits of a number, with this value.
-    Digits(u16),
-    /// All of it.
-    End,
-}
-
-/// Where a byte leads.
-#[derive(Clone, Copy)]
-struct Step {
-    place: Place,
-    /// The number of the write that the byte ends.
-    wrote: Option<u16>,
-}
-
-impl Step {
-    fn to(place: Place) -> Option<Step>
-        ensures { result ≡ moved place }
-    {
-        Some(Step { place, wrote: None })
-    }
-}
-
-fn first_digit(byte: u8) -> Option<Step>
-    ensures { result ≡ first_digit byte }
+fn is_plain_void(ctype: &CType) -> bool
+    ensures { result ≡ form.is_plain_void ctype.now }
 {
-    if byte.is_ascii_digit() {
-        Step::to(Place::Digits(u16::from(byte - b'0')))
+    matches!(ctype.base, Base::Void)
+        && !ctype.is_static
+        && !ctype.is_inline
+        && !ctype.is_const
+        && !ctype.is_volatile
+}
+
+/// Whether it is `void main(void)`.
+#[tactic(auto, unfolding(crate::specs::Form::is_main))]
+fn is_main(head: &Head) -> bool
+    ensures { result ≡ form.is_main head.now }
+{
+    is_plain_void(&head.ctype)
+        && matches!(head.pointers, Pointers::End)
+        && head.name.as_bytes() == b"main".as_slice()
+        && matches!(head.parameters, Parameters::Void)
+}
+
+fn is_output(target: &ExprKind) -> bool
+    ensures { result ≡ form.is_output target.now }
+{
+    match target {
+        ExprKind::Name(name) => name.as_bytes() == b"__R30".as_slice(),
+        _ => false,
+    }
+}
+
+fn loadable_of(value: &ExprKind) -> Option<u16>
+    ensures { result ≡ form.loadable_of value.now }
+{
+    match value {
+        ExprKind::Number(number) => u16::try_from(number.value).ok(),
+        _ => None,
+    }
+}
+
+fn assigned(kind: &ExprKind) -> Option<u16>
+    ensures { result ≡ form.assigned kind.now }
+{
+    match kind {
+        ExprKind::Assign(target, value) => {
+            if is_output(&target.kind) {
+                loadable_of(&value.kind)
+            } else {
+                None
+            }
+        }
+        _ => None,
+    }
+}
+
+/// The number K of the statement `__R30 = K;`.
+#[tactic(auto, unfolding(crate::specs::Form::write_of))]
+fn write_of(statement: &StmtKind) -> Option<u16>
+    ensures { result ≡ form.write_of statement.now }
+{
+    match statement {
+        StmtKind::Expression(Some(e)) => assigned(&e.kind),
+        _ => None,
+    }
+}
+
+fn calls_halt(kind: &ExprKind) -> bool
+    ensures { result ≡ form.calls_halt kind.now }
+{
+    match kind {
+        ExprKind::CallFunction(name, arguments) => {
+            name.as_bytes() == b"__halt".as_slice() && matches!(arguments, Exprs::End)
+        }
+        _ => false,
+    }
+}
+
+/// Whether it is the statement `__halt();`.
+#[tactic(auto, unfolding(crate::specs::Form::halts))]
+fn halts(statement: &StmtKind) -> bool
+    ensures { result ≡ form.halts statement.now }
+{
+    match statement {
+        StmtKind::Expression(Some(e)) => calls_halt(&e.kind),
+        _ => false,
+    }
+}
+
+/// The number that the statement writes, where it is a write and not one too many behind so many others.
+fn allowed(statement: &StmtKind, written: usize) -> Option<u16>
+    ensures { result ≡ (if nat_lt written MOST_WRITES then form.write_of statement.now else None) }
+{
+    if written < MOST_WRITES {
+        write_of(statement)
     } else {
         None
     }
 }
 
-fn more_digits(value: u16, byte: u8) -> Option<Step>
-    ensures { result ≡ more_digits value byte }
+fn is_end(items: &Items) -> bool
+    ensures { result ≡ form.is_end items.now }
 {
-    if !byte.is_ascii_digit() || value == 0 {
-        return None;
-    }
-    match u16::try_from(10 * u32::from(value) + u32::from(byte - b'0')) {
-        Ok(value) => Step::to(Place::Digits(value)),
-        Err(_) => None,
-    }
+    matches!(items, Items::End)
 }
 
-impl Place {
-    /// Where one more byte leads with so many writes left, if a text of the form goes on with it.
-    fn step(self, left: usize, byte: u8) -> Option<Step>
-        requires { IsWithin self }
-        ensures { result ≡ step_of self left byte }
-    {
-        match self {
-            Place::Within(part, at) => part.step(at, byte),
-            Place::Choice => match byte {
-                b'R' if left > 0 => Step::to(Place::Within(Fixed::Write, 0)),
-                b'h' => Step::to(Place::Within(Fixed::Halt, 0)),
-                _ => None,
-            },
-            Place::Number => first_digit(byte),
-            Place::Digits(value) if byte == b';' => Some(Step {
-                place: Place::Within(Fixed::Between, 0),
-                wrote: Some(value),
-            }),
-            Place::Digits(value) => more_digits(value, byte),
-            Place::End => None,
-        }
-    }
-
-    fn is_end(self) -> bool
-        ensures { IsTrue result ↔ (self ≡ End) }
-    {
-        matches!(self, Place::End)
-    }
-}
-
-/// The constants that a source of the form writes.
-pub fn writes_of(alloc: Global, source: &[u8]) -> Result<Vec<u16>, FormFault>
-    ensures { Reads source.now result }
+/// What a body writes in a source that ends at `end`.
+fn body_writes(alloc: Global, body: &Items, end: Span) -> Result<Vec<u16>, FormFault>
+    ensures writes { IfOk result (λ writes. form.BodyWrites body.now writes.items) }
+    ensures each { IfOk result (λ writes. form.AreWrites writes.items) }
+    ensures err { IfErr result (BodyFails end body.now) }
 {
     let mut writes = Vec::new(alloc);
-    let mut place = Place::Within(Fixed::Head, 0);
-    for (at, byte) in source.iter().enumerate() {
-        let Some(step) = place.step(MOST_WRITES - writes.len(), *byte) else {
-            return Err(FormFault::At(at));
+    let mut left = body;
+    while let Items::Statement(statement, rest) = left {
+        let Some(k) = allowed(&statement.kind, writes.len()) else {
+            if halts(&statement.kind) && is_end(rest) {
+                return Ok(writes);
+            }
+            return Err(FormFault::At(statement.mark.span));
         };
-        if let Some(value) = step.wrote {
-            writes.push(value)?;
-        }
-        place = step.place;
+        writes.push(k)?;
+        left = rest;
     }
-    if place.is_end() {
-        Ok(writes)
-    } else {
-        Err(FormFault::At(source.len()))
+    match left {
+        Items::Object(object, _) => Err(FormFault::At(object.mark.span)),
+        _ => Err(FormFault::At(end)),
     }
+}
+
+/// The body of the function, where the unit is one with the head `void main(void)`.
+fn main_of(kind: &UnitKind) -> Option<&Items>
+    ensures { MainOf kind.now (option_copied result) }
+{
+    match kind {
+        UnitKind::Function(head, body) if is_main(head) => Some(body),
+        _ => None,
+    }
+}
+
+fn first_begin(units: &Units) -> Option<Span>
+    ensures { result ≡ first_begin units.now }
+{
+    match units {
+        Units::End => None,
+        Units::More(unit, _) => Some(unit.mark.span),
+    }
+}
+
+/// The body of the one unit of a source that ends at `end`.
+#[tactic(auto, unfolding(crate::specs::Form::IsMainAlone, crate::specs::Form::units_departure))]
+fn main_body(units: &Units, end: Span) -> Result<&Items, Span>
+    ensures main { IfOk result (λ body. form.IsMainAlone units.now body.now) }
+    ensures err { IfErr result (λ span. form.units_departure end units.now ≡ Some span) }
+{
+    let Units::More(unit, rest) = units else {
+        return Err(end);
+    };
+    let Some(body) = main_of(&unit.kind) else {
+        return Err(unit.mark.span);
+    };
+    match first_begin(rest) {
+        Some(second) => Err(second),
+        None => Ok(body),
+    }
+}
+
+fn tree_writes(alloc: Global, tree: &Tree) -> Result<Vec<u16>, FormFault>
+    ensures writes { IfOk result (λ writes. form.IsProgram tree.now.units writes.items) }
+    ensures err { IfErr result (FormFails tree.now) }
+{
+    let end = tree.end();
+    match main_body(tree.units(), end) {
+        Ok(body) => body_writes(alloc, body, end),
+        Err(span) => Err(FormFault::At(span)),
+    }
+}
+
+/// The constants that a tree of the form writes.
+pub fn writes_of(alloc: Global, tree: &Tree) -> Result<Vec<u16>, FormFault>
+    ensures writes { IfOk result (λ writes. form.IsProgram tree.now.units writes.items) }
+    ensures err { IfErr result (FormFails tree.now) }
+
+    // A tree of the form is read as what it writes, unless memory is wanting: it departs nowhere.
+    ensures read { (ks : List ℕ) → form.IsProgram tree.now.units ks → ReadsAs ks result }
+{
+    tree_writes(alloc, tree)
 }

@@ -3,15 +3,19 @@
 
 mod code;
 mod form;
+pub mod laws;
 pub mod machine;
 mod name;
 mod request;
 mod run;
+mod source;
 mod status;
 mod summary;
 #[cfg(test)]
 mod tests;
 mod top;
+#[cfg(test)]
+mod tree_tests;
 
 use fileset::{HostFiles, HostSink};
 use status::Status;

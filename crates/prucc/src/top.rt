@@ -1,35 +1,36 @@
 //! The whole of a run: words, files, code, cores, files, lines.
 
-ghost use Rattle.std.specs.Prelude.{◌≡◌, ◌+◌, ◌^◌, ◌<◌, ◌≤◌, ◌⊎◌, ◌-◌, ℕ, List, length, OnOk, IfOk, IfErr};
+ghost use Rattle.std.specs.Prelude.{◌≡◌, ◌≤◌, ◌⊎◌, ℕ, List, length, OnOk, IfOk, IfErr};
 ghost use Rattle.std.specs.List.{AllByRecursion};
 ghost use Rattle.std.specs.String.{string_bytes};
 ghost use Rattle.fileset.specs.Told.{Tells, IsSameFiles};
 ghost use Rattle.fileset.specs.Faults.{Rose};
-ghost use Rattle.prucc.specs.Form.{IsLoadable, Writes};
+ghost use Rattle.csyn.specs.declared.span.Span.{Span};
+ghost use Rattle.csyn.specs.declared.cause.Cause.{Cause};
+ghost use Rattle.prucc.specs.Form.{IsLoadable};
+ghost use Rattle.prucc.specs.Source.{Writes};
 ghost use Rattle.prucc.specs.Run.{ShowsMeaning};
 ghost use Rattle.prucc.specs.Request.{Asked, Asks, texts, asked};
-ghost use Rattle.prucc.specs.Answers.{AskFor, HasTaken, IsUntouched, Finishes, IsNotBuiltFrom, IsInput, IsBeforeWrites, IsBeforeSink};
-ghost use Rattle.prucc.specs.RunAnswer.{ReadFails, HoldsFront, InputFails, HoldsInputs, NotBuiltBehind, SourceFails, Builds, BuildFails, HoldsFile, WriteFails, PutFails, OutputFails, RunFails};
+ghost use Rattle.prucc.specs.Answers.{AskFor, HasTaken, AreWithin, IsUntouched, Finishes, IsNotBuiltFrom, IsBrokenFrom, IsLongFrom, IsCore, IsInput, IsMost, IsBeforeWrites, IsBeforeSink};
+ghost use Rattle.prucc.specs.RunAnswer.{ReadFails, Holds, InputFails, HoldsInputs, NotBuiltIn, SourceFails, Builds, BuildFails, HoldsFile, WriteFails, PutFails, OutputFails, RunFails};
 
 use crate::code::words_of;
-use crate::form::{FormFault, writes_of};
 use crate::name::Name;
 use crate::request::Request;
 use crate::run::{Outcome, run};
+use crate::source::{MAX_SOURCE, SourceRefusal, read_source};
 use crate::status::Status;
 use crate::summary::push_core_line;
+use csyn::Span;
 use fileset::{FileFault, Files, Sink};
 use prunum::Memory;
 use prutrace::print_events;
 use std::alloc::Global;
 
-/// The most bytes of a source.
-const MAX_SOURCE: usize = 65_536;
-
 /// The most bytes of a script.
-const MAX_SCRIPT: usize = 1_048_576;
+const MAX_SCRIPT: u32 = 1_048_576;
 
-/// The files of a run, each up to one byte more than its most.
+/// The files of a run.
 #[derive(Debug, Drop)]
 pub struct Inputs {
     pub zero: Vec<u8>,
@@ -44,19 +45,25 @@ pub struct Output {
     pub summary: String,
 }
 
+// A file with a byte more than its most is read that far.
 fn read_file<F: Files>(
     alloc: Global,
     files: &mut F,
     name: &Name,
-    max: usize,
+    max: u32,
 ) -> Result<Vec<u8>, Status>
-    ensures bytes { IfOk result (λ bytes. Tells (F.told files.old) (F.told files.new) (HoldsFront bytes.items name.now max)) }
-    ensures within { IfOk result (λ bytes. length bytes.items ≤ max + 1) }
+    ensures bytes { IfOk result (λ bytes. Tells (F.told files.old) (F.told files.new) (Holds bytes.items name.now)) }
+    ensures within { IfOk result (λ bytes. length bytes.items ≤ max) }
     ensures same { Tells (F.told files.old) (F.told files.new) IsSameFiles }
-    ensures err { IfErr result (ReadFails name.now (F.faults files.old) (F.faults files.new)) }
+    ensures err { IfErr result (ReadFails name.now max (F.told files.old) (F.told files.new) (F.faults files.old) (F.faults files.new)) }
     ensures grows { F.faults files.old ≤ F.faults files.new }
 {
-    match files.read(alloc, name.as_str(), max) {
+    let most = max as usize;
+    match files.read(alloc, name.as_str(), most) {
+        Ok(bytes) if bytes.len() > most => {
+            let name = Name::of(alloc, name.as_str())?;
+            Err(Status::TooLong { name, max })
+        }
         Ok(bytes) => Ok(bytes),
         Err(FileFault::Memory) => Err(Status::NoMemory),
         Err(FileFault::Failed) => {
@@ -68,9 +75,9 @@ fn read_file<F: Files>(
 
 fn read_inputs<F: Files>(alloc: Global, files: &mut F, request: &Request) -> Result<Inputs, Status>
     ensures inputs { IfOk result (λ inputs. Tells (F.told files.old) (F.told files.new) (HoldsInputs (asked request.now) inputs)) }
-    ensures within { IfOk result (λ inputs. (length inputs.zero.items ≤ 65537) × (length inputs.one.items ≤ 65537)) }
+    ensures within { IfOk result (λ inputs. AreWithin inputs.script.items inputs.zero.items inputs.one.items) }
     ensures same { Tells (F.told files.old) (F.told files.new) IsSameFiles }
-    ensures err { IfErr result (InputFails (asked request.now) (F.faults files.old) (F.faults files.new)) }
+    ensures err { IfErr result (InputFails (asked request.now) (F.told files.old) (F.told files.new) (F.faults files.old) (F.faults files.new)) }
     ensures grows { F.faults files.old ≤ F.faults files.new }
 {
     let zero = read_file(alloc, files, &request.zero, MAX_SOURCE)?;
@@ -79,30 +86,26 @@ fn read_inputs<F: Files>(alloc: Global, files: &mut F, request: &Request) -> Res
     Ok(Inputs { zero, one, script })
 }
 
-// What isn't built stands behind so many bytes of the file.
-fn not_built(alloc: Global, name: &Name, at: usize) -> Status
-    requires { at < 2 ^ 32 - 1 }
-    ensures { NotBuiltBehind name.now at result }
+fn not_built(alloc: Global, name: &Name, span: Span) -> Status
+    ensures { NotBuiltIn name.now span result }
 {
     match Name::of(alloc, name.as_str()) {
-        Ok(name) => Status::NotBuilt {
-            name,
-            line: 1,
-            column: at as u32 + 1,
-        },
+        Ok(name) => Status::NotBuilt { name, span },
         Err(Memory) => Status::NoMemory,
     }
 }
 
-fn read_source(alloc: Global, name: &Name, source: &[u8]) -> Result<Vec<u16>, Status>
-    requires { length source.now ≤ MAX_SOURCE + 1 }
+// What the source of a core writes.
+fn source_writes(alloc: Global, core: u8, name: &Name, source: &[u8]) -> Result<Vec<u16>, Status>
+    requires { length source.now ≤ MAX_SOURCE }
     ensures writes { IfOk result (λ writes. Writes source.now writes.items) }
-    ensures err { IfErr result (SourceFails name.now source.now) }
+    ensures err { IfErr result (SourceFails core name.now source.now) }
 {
-    match writes_of(alloc, source) {
+    match read_source(alloc, source) {
         Ok(writes) => Ok(writes),
-        Err(FormFault::Memory) => Err(Status::NoMemory),
-        Err(FormFault::At(at)) => Err(not_built(alloc, name, at)),
+        Err(SourceRefusal::Broken { span, cause }) => Err(Status::Source { core, span, cause }),
+        Err(SourceRefusal::NotBuilt(span)) => Err(not_built(alloc, name, span)),
+        Err(SourceRefusal::Memory) => Err(Status::NoMemory),
     }
 }
 
@@ -116,15 +119,15 @@ fn run_source(alloc: Global, writes: &[u16], cycles: u32) -> Result<Outcome, Mem
 }
 
 fn build(alloc: Global, request: &Request, inputs: &Inputs) -> Result<Output, Status>
-    requires { (length inputs.now.zero.items ≤ MAX_SOURCE + 1) × (length inputs.now.one.items ≤ MAX_SOURCE + 1) }
+    requires { AreWithin inputs.now.script.items inputs.now.zero.items inputs.now.one.items }
     ensures output { IfOk result (Builds (asked request.now) inputs.now) }
     ensures err { IfErr result (BuildFails (asked request.now) inputs.now) }
 {
     if !inputs.script.is_empty() {
-        return Err(not_built(alloc, &request.script, 0));
+        return Err(not_built(alloc, &request.script, Span { line: 1, column: 1 }));
     }
-    let zero = read_source(alloc, &request.zero, &inputs.zero)?;
-    let one = read_source(alloc, &request.one, &inputs.one)?;
+    let zero = source_writes(alloc, 0, &request.zero, &inputs.zero)?;
+    let one = source_writes(alloc, 1, &request.one, &inputs.one)?;
     let zero = run_source(alloc, &zero, request.cycles)?;
     let one = run_source(alloc, &one, request.cycles)?;
     let events = print_events(alloc, &zero.trace, &one.trace)?;
@@ -197,9 +200,17 @@ pub fn prucc<F: Files, S: Sink>(
     ensures done { result ≡ Status.Done → AskFor (texts words.now)
         (λ r. Tells (F.told files.old) (F.told files.new) (Finishes r (S.told out.old) (S.told out.new))) }
 
+    // The first rule that a source breaks: of core 0, or of core 1, where the source of core 0 is built.
+    ensures source { (core : ℕ) (span : Span) (cause : Cause) → result ≡ Status.Source core span cause → AskFor (texts words.now)
+        (λ r. IsCore core × Tells (F.told files.old) (F.told files.new) (λ before _. IsBrokenFrom before r core span cause)) }
+
+    // The first file that is too long, and its most bytes.
+    ensures too_long { (name : List ℕ) (max : ℕ) → result ≡ Status.TooLong name max → AskFor (texts words.now)
+        (λ r. IsMost r name max × Tells (F.told files.old) (F.told files.new) (λ before _. IsLongFrom before r name max)) }
+
     // The first file that isn't built yet, at the place from which it isn't.
-    ensures not_built { (name : List ℕ) (line column : ℕ) → result ≡ Status.NotBuilt name line column → AskFor (texts words.now)
-        (λ r. Tells (F.told files.old) (F.told files.new) (λ before _. IsNotBuiltFrom before r name line column)) }
+    ensures not_built { (name : List ℕ) (span : Span) → result ≡ Status.NotBuilt name span → AskFor (texts words.now)
+        (λ r. Tells (F.told files.old) (F.told files.new) (λ before _. IsNotBuiltFrom before r name span)) }
 
     // A fault is the files' or the sink's: its count rose in this call.
     ensures read { (name : List ℕ) → result ≡ Status.ReadFault name → AskFor (texts words.now)

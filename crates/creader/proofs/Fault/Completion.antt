@@ -87,7 +87,7 @@ spares_end-append (symbol.Reduce p ∷ one) other h k = spares_end-append one ot
 spares_end-append (symbol.Read p ∷ one) other h k = spares_end-append one other h k
 
 -- what holds of every rule holds of the chosen one
-every_chosen : (q : Rule → Bool) (rules : List Rule) (kind : Kind) (rule : Rule) → every q rules ≡ true → choose rules kind ≡ Some rule → q rule ≡ true
+pub every_chosen : (q : Rule → Bool) (rules : List Rule) (kind : Kind) (rule : Rule) → every q rules ≡ true → choose rules kind ≡ Some rule → q rule ≡ true
 unfolding choose
 every_chosen q [] kind rule h e = cc
 every_chosen q (r ∷ rs) kind rule h e = go (any_accepts r.on kind) refl (λ later. every_chosen q rs kind rule (and_right (q r) _ h) later)

@@ -12,14 +12,10 @@ use Rattle.creader.specs.Machine as machine
 use Rattle.creader.specs.Machine.{State, at, Reaches, here, next, reduce}
 use Rattle.creader.specs.Reader as specs
 use Rattle.creader.specs.Reader.{Held, Moves, Feeds, reduced, finished}
+use Rattle.creader.proofs.Fault.Steps.{onwards}
 use Rattle.creader.proofs.Reading.Represents.{Represents}
 use Rattle.creader.proofs.Reading.Reduced.{represents-reduced}
 use Rattle.creader.proofs.Reading.Simulated.{Simulated, simulated, with-symbols}
-
--- steps, and then more steps
-pub reaches-on : {a b c : State} → Reaches a b → Reaches b c → Reaches a c
-reaches-on here second = second
-reaches-on (next step first) second = next step (reaches-on first second)
 
 -- a state of the machine that the reader stands for
 pub record Run (from : State) (h : Held) (tokens : List Token) : Type 0 where
@@ -35,7 +31,7 @@ moves-run from token tokens same specs.none run = run
 moves-run from token tokens same (specs.more {b = b} {c = c} moves last) run =
     let before = moves-run from token tokens same moves run in
     let step = simulated b c progress.Moved before.values token tokens before.represents (ap (λ k. specs.step k b) same ∙ last) in
-    record { values = step.0; reaches = reaches-on before.reaches (next step.1 here); represents = step.2 }
+    record { values = step.0; reaches = onwards before.reaches (next step.1 here); represents = step.2 }
 
 -- a token that is taken
 pub fed : (from : State) (token : Token) (tokens : List Token) (before after : Held) → Feeds (kind_of token) true before after
@@ -44,7 +40,7 @@ unfolding Simulated
 fed from token tokens before after feeds run =
     let middle = moves-run from token tokens refl feeds.moves run in
     let step = simulated feeds.between after progress.Taken middle.values token tokens middle.represents feeds.last in
-    record { values = step.0; reaches = reaches-on middle.reaches (next step.1 here); represents = step.2 }
+    record { values = step.0; reaches = onwards middle.reaches (next step.1 here); represents = step.2 }
 
 -- a state without a step
 pub record Stops (from : State) (tokens : List Token) : Type 0 where
@@ -75,7 +71,7 @@ finished-at from [] h after values reaches r e =
     let kept : Represents after values = subst (λ x. Represents x values) same r in
     record { values = values; reaches = reaches; represents = with-symbols [] after values kept }
 finished-at from (symbol.Reduce production ∷ symbols) h after values reaches r e =
-    finished-at from symbols (reduced production (record h { symbols = symbols })) after (reduce production values) (reaches-on reaches (next refl here))
+    finished-at from symbols (reduced production (record h { symbols = symbols })) after (reduce production values) (onwards reaches (next refl here))
     (represents-reduced (record h { symbols = symbols }) values production (with-symbols symbols h values r)) e
 finished-at from (symbol.Take terminal ∷ symbols) h after values reaches r e =
     let other : false ≡ true = ap (λ (x : Bool × Held). x.0) e in absurd (cc)
@@ -93,7 +89,7 @@ unfolding machine.step
 unfinished-at from [] h after values reaches e =
     let other : true ≡ false = ap (λ (x : Bool × Held). x.0) e in absurd (cc)
 unfinished-at from (symbol.Reduce production ∷ symbols) h after values reaches e =
-    unfinished-at from symbols (reduced production (record h { symbols = symbols })) after (reduce production values) (reaches-on reaches (next refl here)) e
+    unfinished-at from symbols (reduced production (record h { symbols = symbols })) after (reduce production values) (onwards reaches (next refl here)) e
 unfinished-at from (symbol.Take terminal ∷ symbols) h after values reaches e =
     (record { symbols = symbol.Take terminal ∷ symbols; values = values; reaches = reaches; stops = refl }, λ none. absurd (cc))
 unfinished-at from (symbol.Read part ∷ symbols) h after values reaches e =

@@ -1,6 +1,5 @@
 -- Steps that take no token come to an end: the symbols up to the first that surely takes one weigh less each time.
 use Rattle.std.specs.Prelude.{◌≡◌, ℕ, ◌+◌, ◌<◌, Bool, true, false, not, ◌||◌, ◌&&◌, nat_lt, if◌then◌else◌, List, [], ◌∷◌, ◌++◌, Option, Some, refl, cond, ◌⊎◌}
-use Rattle.std.specs.List.{list_all}
 use Rattle.std.proofs.Common.{arith, sym, ap, subst, inl, inr, ltb-true, zero-add}
 use Rattle.cgrammar.specs.declared.kind.Kind.{Kind}
 use Rattle.creader.specs.declared.part.Part.{Part}
@@ -11,7 +10,9 @@ use Rattle.creader.specs.declared.part.Symbol.{Symbol}
 use Rattle.creader.specs.declared.part.Symbol.TheVariants as symbol
 use Rattle.cgrammar.specs.declared.production.Level.TheVariants as level
 use Rattle.cgrammar.specs.declared.production.Words.TheVariants as words
-use Rattle.creader.specs.Rules.{Rule, rules, chain_rules, chain_tail_rules, words_rules, choose, any_accepts}
+use Rattle.creader.specs.Rules.{Rule, rules, chain_rules, chain_tail_rules, words_rules, choose}
+use Rattle.creader.proofs.Fault.Completion.{every_chosen}
+use Rattle.creader.proofs.Fault.Kinds.{every, and_left, and_right}
 
 -- how many steps a part may take before a token is taken, at most
 unfoldable pub weight : Part → ℕ
@@ -225,7 +226,7 @@ unfoldable is_light : Part → Rule → Bool
 is_light part rule = is_take rule.move || (nat_lt (weigh rule.symbols) (weight part) && (not (is_sure part) || stops rule.symbols))
 
 -- each rule is, by computing
-all_light : (part : Part) → list_all (is_light part) (rules part) ≡ true
+all_light : (part : Part) → every (is_light part) (rules part) ≡ true
 unfolding weight is_sure is_sure_symbol symbol_weight weigh stops is_take is_light rules chain_rules chain_tail_rules words_rules
 all_light part.Expression = refl
 all_light part.CommaTail = refl
@@ -316,30 +317,10 @@ all_light part.ParameterEnd = refl
 all_light part.ParameterLength = refl
 all_light part.MoreParameters = refl
 
--- both of two are true
-both : (a b : Bool) → (a && b) ≡ true → (a ≡ true) × (b ≡ true)
-both true b h = (refl, h)
-both false b h = absurd (cc)
-
 -- where the first of two is false, the second is true
 either : (a b : Bool) → (a || b) ≡ true → a ≡ false → b ≡ true
 either true b h e = absurd (cc)
 either false b h e = h
-
-chosen_by : (b : Bool) (first rule : Rule) (rest : Option Rule) → cond b (Some first) rest ≡ Some rule → (first ≡ rule) ⊎ (rest ≡ Some rule)
-chosen_by true first rule rest h = inl (cc)
-chosen_by false first rule rest h = inr h
-
--- what holds of each rule holds of the one that is chosen
-chosen_is : (p : Rule → Bool) (all : List Rule) (kind : Kind) (rule : Rule) → list_all p all ≡ true → choose all kind ≡ Some rule → p rule ≡ true
-unfolding choose
-chosen_is p [] kind rule each chosen = absurd (cc)
-chosen_is p (first ∷ others) kind rule each chosen =
-    let parts = both (p first) (list_all p others) each in
-    elim (chosen_by (any_accepts first.on kind) first rule (choose others kind) chosen) [
-      | inl same ↦ subst (λ r. p r ≡ true) same parts.0
-      | inr later ↦ chosen_is p others kind rule parts.1 later
-    ]
 
 weigh_append_by : (sure stop : Bool) (first front all rest : ℕ) → all ≡ cond stop front (front + rest)
     → cond sure first (first + all) ≡ cond (sure || stop) (cond sure first (first + front)) (cond sure first (first + front) + rest)
@@ -366,10 +347,9 @@ pub lighter : (part : Part) (kind : Kind) (rule : Rule) (symbols : List Symbol) 
     → weigh (rule.symbols ++ symbols) < weigh (symbol.Read part ∷ symbols)
 unfolding weigh is_light is_take is_sure_symbol symbol_weight
 lighter part kind rule symbols chosen stay =
-    let light = chosen_is (is_light part) (rules part) kind rule (all_light part) chosen in
+    let light = every_chosen (is_light part) (rules part) kind rule (all_light part) chosen in
     let no_take : is_take rule.move ≡ false = ap is_take stay in
-    let parts = both (nat_lt (weigh rule.symbols) (weight part)) (not (is_sure part) || stops rule.symbols)
-    (either (is_take rule.move) (nat_lt (weigh rule.symbols) (weight part) && (not (is_sure part) || stops rule.symbols)) light no_take) in
-    let less : weigh rule.symbols < weight part = ltb-true (weigh rule.symbols) (weight part) parts.0 in
+    let parts = either (is_take rule.move) (nat_lt (weigh rule.symbols) (weight part) && (not (is_sure part) || stops rule.symbols)) light no_take in
+    let less : weigh rule.symbols < weight part = ltb-true (weigh rule.symbols) (weight part) (and_left _ _ parts) in
     subst (λ n. n < cond (is_sure part) (weight part) (weight part + weigh symbols)) (sym (weigh_append rule.symbols symbols))
-    (lighter_by (is_sure part) (stops rule.symbols) (weigh rule.symbols) (weight part) (weigh symbols) less parts.1)
+    (lighter_by (is_sure part) (stops rule.symbols) (weigh rule.symbols) (weight part) (weigh symbols) less (and_right _ _ parts))

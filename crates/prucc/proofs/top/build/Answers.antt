@@ -5,7 +5,7 @@ use Rattle.std.proofs.lemmas.List.{nil_from_length}
 use Rattle.std.proofs.lemmas.Result.{err_from_is_err_and}
 use Rattle.prutrace.specs.declared.event.Stamped.{Stamped}
 use Rattle.prutrace.specs.Text.{events_of, events_text}
-use Rattle.prucc.specs.Form.{Writes}
+use Rattle.prucc.specs.Source.{Writes}
 use Rattle.prucc.specs.Run.{ShowsMeaning}
 use Rattle.prucc.specs.Request.{asked}
 use Rattle.prucc.specs.Summary.{summary_line}
@@ -21,7 +21,7 @@ returns-in_err-zero-clause-err c =
     let p = err_from_is_err_and c.from_residual.result c.from_residual.ensures.1 in
     let empty = nothing c.args.inputs.now.script.items c.args.inputs.now.script.len c.is_empty.result (omega (arith, c.args.inputs.now.script.ok.0)) c.is_empty.ensures c.if-not-is_empty.false in
     rw (p.1, p.2) (zero_fails (asked c.args.request.now) c.args.inputs.now c.in_err-zero.field-0.0 empty
-    (subst (λ (source : List ℕ). SourceFails c.args.request.now.zero source c.in_err-zero.field-0.0) c.deref.ensures.value c.in_err-zero.ensures.err))
+    (subst (λ (source : List ℕ). SourceFails 0 c.args.request.now.zero source c.in_err-zero.field-0.0) c.deref.ensures.value c.in_err-zero.ensures.err))
 
 pub returns-in_err-one-clause-err : goal.returns-in_err-one-clause-err
 returns-in_err-one-clause-err c =
@@ -29,7 +29,7 @@ returns-in_err-one-clause-err c =
     let empty = nothing c.args.inputs.now.script.items c.args.inputs.now.script.len c.is_empty.result (omega (arith, c.args.inputs.now.script.ok.0)) c.is_empty.ensures c.if-not-is_empty.false in
     rw (p.1, p.2) (one_fails (asked c.args.request.now) c.args.inputs.now c.in_ok-zero.zero.items c.in_err-one.field-0.0 empty
     (subst (λ (source : List ℕ). Writes source c.in_ok-zero.zero.items) c.deref.ensures.value c.in_ok-zero.ensures.writes)
-    (subst (λ (source : List ℕ). SourceFails c.args.request.now.one source c.in_err-one.field-0.0) c.deref-2.ensures.value c.in_err-one.ensures.err))
+    (subst (λ (source : List ℕ). SourceFails 1 c.args.request.now.one source c.in_err-one.field-0.0) c.deref-2.ensures.value c.in_err-one.ensures.err))
 
 both_lines : (n : ℕ) (ks0 ks1 empty first second : List ℕ) → empty ≡ [] → first ≡ empty ++ summary_line 0 n ks0 → second ≡ first ++ summary_line 1 n ks1 → second ≡ summary_line 0 n ks0 ++ summary_line 1 n ks1
 both_lines n ks0 ks1 empty first second none f s = s ∙ ap (λ (t : List ℕ). t ++ summary_line 1 n ks1) (f ∙ ap (λ (t : List ℕ). t ++ summary_line 0 n ks0) none)
@@ -46,6 +46,7 @@ returns-clause-output c =
       ks0 = ks0;
       ks1 = ks1;
       built = record {
+        within = c.requires;
         no_script = empty;
         writes_zero = subst (λ (source : List ℕ). Writes source c.in_ok-zero.zero.items) c.deref.ensures.value c.in_ok-zero.ensures.writes;
         writes_one = subst (λ (source : List ℕ). Writes source c.in_ok-one.one.items) c.deref-2.ensures.value c.in_ok-one.ensures.writes;

@@ -16,7 +16,7 @@ returns-in_err-output-clause-err g c =
     let p = err_from_is_err_and c.from_residual-in_err-output.result c.from_residual-in_err-output.ensures.1 in
     let asks = asks_it (texts c.args.words.now) c.in_ok-request.field-0 c.in-Some.request c.in-Some.is c.in_ok-request.ensures in
     rw (p.1, p.2) (build_fails (texts c.args.words.now) (asked c.in-Some.request) c.in_ok-inputs.inputs (g.F.Files.told c.args.files.now) (g.F.Files.told c.read_inputs.new.files) (g.F.Files.faults c.args.files.now) (g.F.Files.faults c.read_inputs.new.files)
-    (g.S.Sink.told c.args.out.now) (g.S.Sink.faults c.args.out.now) c.in_err-output.field-0.0 asks c.in_ok-inputs.ensures.inputs c.in_ok-inputs.ensures.same c.in_err-output.ensures.err)
+    (g.S.Sink.told c.args.out.now) (g.S.Sink.faults c.args.out.now) c.in_err-output.field-0.0 asks c.in_ok-inputs.ensures.within c.in_ok-inputs.ensures.inputs c.in_ok-inputs.ensures.same c.in_err-output.ensures.err)
 
 pub returns-in_err-write_file-clause-err : goal.returns-in_err-write_file-clause-err
 returns-in_err-write_file-clause-err g c =

@@ -1,0 +1,16 @@
+//! From tokens to trees (C99 6.5 to 6.9, in this project's subset).
+#![tactic(auto)]
+
+mod build;
+mod laws;
+mod levels;
+mod make;
+mod parser;
+mod parts;
+mod value;
+
+pub use laws::{one_first_deep, one_reading, tree_or_fault};
+pub use parser::parse;
+
+#[cfg(test)]
+mod tests;
