@@ -15,11 +15,11 @@ use Rattle.cgrammar.specs.Text.{Written, IsText, IsProper, IsFirstFault}
 use Rattle.creader.specs.declared.reader.Entry.{Entry}
 use Rattle.creader.specs.Entries.{entries}
 use Rattle.creader.specs.Source.{EndsOnce}
-use Rattle.cparse.specs.declared.value.Value.{Value}
-use Rattle.cparse.specs.declared.value.Value.TheVariants as value
+use Rattle.cparts.specs.declared.value.Value.{Value}
+use Rattle.cparts.specs.declared.value.Value.TheVariants as value
 use Rattle.cparse.specs.Nodes.{nodes, deep}
 use Rattle.cparse.specs.Tree as tree
-use Rattle.cparse.specs.Value.{bare_value}
+use Rattle.cparts.specs.Value.{bare_value}
 use Rattle.cparse.specs.Parsed.{Yields, FaultAt, IsFault, unreadable, too_deep, Same, kind_cause}
 use Rattle.cparse.proofs.Ascending.{found-is-least, none-is-deep}
 use Rattle.cparse.proofs.Deepest.{deep-within}

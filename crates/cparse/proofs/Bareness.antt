@@ -1,21 +1,22 @@
 -- The value of a source has no pointers, and so each source in which no node stands too deep has a tree.
-use Rattle.std.proofs.Common.{◌≡◌, ◌+◌, ◌-◌, ℕ, Bool, true, List, [], ◌∷◌, map, Option, Some, None, refl, sym, ap, ◌∙◌}
+use Rattle.std.proofs.Common.{◌≡◌, ◌+◌, ℕ, true, List, [], ◌∷◌, Option, Some, None, refl, sym, ap, ◌∙◌}
 use Rattle.std.specs.Option.{option_map}
+use Rattle.std.specs.Cmp.{first_so, second_so}
 use Rattle.csyn.specs.declared.token.Token.{Token}
 use Rattle.csyn.specs.declared.unit.Units.{Units}
 use Rattle.csyn.specs.Bare.{bare_units}
 use Rattle.cgrammar.specs.declared.production.Production.{Production}
 use Rattle.cgrammar.specs.Grammar.{Piece, token, part, home, template, source}
 use Rattle.cgrammar.specs.Text.{Written, leaf, node, Forest, none, more, spells, Stands, IsProper, Match}
-use Rattle.cparse.specs.declared.value.Value.{Value}
-use Rattle.cparse.specs.declared.value.Value.TheVariants as value
-use Rattle.cparse.specs.Make.{table, mark_at}
+use Rattle.cparts.specs.declared.value.Value.{Value}
+use Rattle.cparts.specs.declared.value.Value.TheVariants as value
+use Rattle.caction.specs.Make.{table, mark_at}
 use Rattle.cparse.specs.Nodes.{nodes, nodes_of}
 use Rattle.cparse.specs.Tree.{value as value_of, values, place_of, in_front, made as made_of}
-use Rattle.cparse.specs.Value.{bare_value, bare_values}
-use Rattle.cparse.proofs.Shape.{Shape, units, shape, shapes, under-shape, is_used, all_used}
+use Rattle.cparts.specs.Value.{bare_value, bare_values}
+use Rattle.cparse.proofs.Shape.{shape, shapes, under-shape, is_used, all_used}
 use Rattle.cparse.proofs.MadeBare.{natural}
-use Rattle.cparse.proofs.Total.{Fitting, fitting, have-values, used-parts, and-first, and-second, source-units}
+use Rattle.cparse.proofs.Total.{Fitting, fitting, have-values, used-parts, source-units}
 
 -- a value, or values, without pointers, if any
 abbrev IsBare : Option Value → Type 0
@@ -61,8 +62,8 @@ mutual
   values-bare number (part _ ∷ pieces) (more (leaf _) parts) m u = absurd m.0
   values-bare number (part c ∷ pieces) (more (node q own) parts) m u =
       in-front-bare (value_of number (node q own)) (values (number + nodes (node q own)) parts)
-      (value-bare number (node q own) m.1 (ap is_used (under-shape (home q) c m.0) ∙ and-first (is_used (shape c)) (all_used (shapes pieces)) u))
-      (values-bare (number + nodes (node q own)) pieces parts m.3 (and-second (is_used (shape c)) (all_used (shapes pieces)) u))
+      (value-bare number (node q own) m.1 (ap is_used (under-shape (home q) c m.0) ∙ first_so (is_used (shape c)) (all_used (shapes pieces)) u))
+      (values-bare (number + nodes (node q own)) pieces parts m.3 (second_so (is_used (shape c)) (all_used (shapes pieces)) u))
 
 -- each source has units without pointers
 pub source-bare : (w : Written) → Stands (part source) w → IsProper w → (u : Units) × (value_of 0 w ≡ Some (value.Units (bare_units u)))

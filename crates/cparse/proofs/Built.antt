@@ -12,9 +12,9 @@ use Rattle.cgrammar.specs.Grammar.{source, Piece, token, part, template, parts_a
 use Rattle.cgrammar.specs.Text.{Written, leaf, node, Forest, none, more, spells, IsProper, Match, IsText, begins_with_else}
 use Rattle.creader.specs.declared.reader.Entry.{Entry}
 use Rattle.creader.specs.Entries.{entries, entries_of}
-use Rattle.cparse.specs.declared.value.Value.{Value}
+use Rattle.cparts.specs.declared.value.Value.{Value}
 use Rattle.cparse.specs.Nodes.{nodes, nodes_of}
-use Rattle.cparse.specs.Make.{Place, make}
+use Rattle.caction.specs.Make.{Place, make}
 use Rattle.cparse.specs.Tree.{value, values, made, in_front, place_of}
 use Rattle.cparse.specs.Build.{Built, built, build, build_one, with_value, place_in}
 

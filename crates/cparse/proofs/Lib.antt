@@ -10,7 +10,6 @@ mod Made
 mod MadeBare
 mod MadeLevels
 mod Pass
-mod Picked
 mod Readings
 mod Shallow
 mod Shape

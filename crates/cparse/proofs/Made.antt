@@ -28,10 +28,10 @@ use Rattle.cgrammar.specs.declared.kind.Kind.TheVariants as kind
 use Rattle.cgrammar.specs.Kind.{kind_of, token_kind, name_kind}
 use Rattle.cgrammar.specs.Terminal.{accepts, keyword_number, punctuator_number}
 use Rattle.cgrammar.specs.Grammar.{home, template, assignment_class, joined, before, alone, word_token}
-use Rattle.cparse.specs.declared.value.Value.{Value}
-use Rattle.cparse.specs.declared.value.Value.TheVariants as value
-use Rattle.cparse.specs.Parts.{pick}
-use Rattle.cparse.specs.Make.{table, identifier, literal, number, character, prefixed, standard, specified, qualified, worded, no_words}
+use Rattle.cparts.specs.declared.value.Value.{Value}
+use Rattle.cparts.specs.declared.value.Value.TheVariants as value
+use Rattle.cparts.specs.Parts.{pick}
+use Rattle.caction.specs.Make.{table, identifier, literal, number, character, prefixed, standard, specified, qualified, worded, no_words}
 use Rattle.cparse.proofs.Shape.{text, expr, base, ctype, words, qualifiers, shape, shapes, Fits, end, and, Made, made, unused, is_base, is_ctype, is_declarator, is_declarators, is_expr, is_exprs, is_external_rest, is_for_first, is_function_end, is_init, is_init_declarator, is_init_declarators, is_inits, is_items, is_member, is_members, is_object, is_optional_expr, is_optional_init, is_optional_stmt, is_parameter, is_parameter_list, is_parameters, is_pointers, is_qualifiers, is_register_type, is_stmt, is_text, is_type_name, is_unit, is_units, is_words}
 
 -- a token that the terminal accepts

@@ -1,25 +1,24 @@
 -- What the productions make has no pointers: a production makes of values without their pointers what it makes of them, without its
 -- pointers.
-use Rattle.std.proofs.Common.{◌≡◌, ℕ, List, [], ◌∷◌, ◌++◌, map, Option, Some, None, refl, ap, ◌∙◌}
+use Rattle.std.proofs.Common.{◌≡◌, List, [], ◌∷◌, Option, Some, None, refl, ap}
 use Rattle.std.specs.Option.{option_map}
 use Rattle.csyn.specs.declared.mark.Mark.{Mark}
 use Rattle.csyn.specs.declared.token.Token.{Token}
 use Rattle.csyn.specs.declared.token.TokenKind.{TokenKind}
 use Rattle.csyn.specs.declared.token.TokenKind.TheVariants as token
 use Rattle.csyn.specs.declared.operator.PrefixOperator.{PrefixOperator}
-use Rattle.csyn.specs.declared.ctype.IntegerWords.{IntegerWords}
 use Rattle.csyn.specs.declared.expression.Expr.{Expr}
 use Rattle.csyn.specs.declared.expression.ExprKind as expression
 use Rattle.csyn.specs.Bare.{at_null, bare_expr}
 use Rattle.cgrammar.specs.declared.production.Production.{Production}
 use Rattle.cgrammar.specs.declared.production.Production.TheVariants as production
-use Rattle.cgrammar.specs.Grammar.{home, template, alone, joined, before, assignment_class}
-use Rattle.cparse.specs.declared.value.ExternalRest.TheVariants as rest
-use Rattle.cparse.specs.declared.value.Value.{Value}
-use Rattle.cparse.specs.declared.value.Value.TheVariants as value
-use Rattle.cparse.specs.Value.{bare_value, bare_values}
-use Rattle.cparse.specs.Parts.{pick, perhaps, words}
-use Rattle.cparse.specs.Make.{table, first, last, identifier, literal, number, character, prefix_of, expression_at, standard, specified, qualified, worded, no_words}
+use Rattle.cgrammar.specs.Grammar.{home, template, alone}
+use Rattle.cparts.specs.declared.value.ExternalRest.TheVariants as rest
+use Rattle.cparts.specs.declared.value.Value.{Value}
+use Rattle.cparts.specs.declared.value.Value.TheVariants as value
+use Rattle.cparts.specs.Value.{bare_value, bare_values}
+use Rattle.cparts.specs.Parts.{pick, perhaps, words}
+use Rattle.caction.specs.Make.{table, first, last, identifier, literal, number, character, prefix_of, expression_at, standard, specified, qualified, worded, no_words}
 use Rattle.cparse.proofs.Shape.{shape, shapes, Fits, end, and, is_base, is_ctype, is_declarator, is_declarators, is_expr, is_exprs, is_external_rest, is_for_first, is_function_end, is_init, is_init_declarator, is_init_declarators, is_inits, is_items, is_member, is_members, is_object, is_optional_expr, is_optional_init, is_optional_stmt, is_parameter, is_parameter_list, is_parameters, is_pointers, is_qualifiers, is_register_type, is_stmt, is_text, is_type_name, is_unit, is_units, is_words}
 
 -- the values of tokens

@@ -28,9 +28,9 @@ use Rattle.csyn.specs.declared.statement.Stmt.{Stmt}
 use Rattle.csyn.specs.declared.statement.Items.{Items}
 use Rattle.csyn.specs.declared.unit.Unit as declared_unit
 use Rattle.csyn.specs.declared.unit.Units.{Units}
-use Rattle.cparse.specs.declared.value.ExternalRest.{ExternalRest}
-use Rattle.cparse.specs.declared.value.Value.{Value}
-use Rattle.cparse.specs.declared.value.Value.TheVariants as value
+use Rattle.cparts.specs.declared.value.ExternalRest.{ExternalRest}
+use Rattle.cparts.specs.declared.value.Value.{Value}
+use Rattle.cparts.specs.declared.value.Value.TheVariants as value
 use Rattle.csyn.specs.declared.expression.ExprKind as expression
 use Rattle.csyn.specs.Bare.{at_null}
 use Rattle.csyn.specs.Levels.{expr_levels, exprs_levels, option_levels, declarator_levels, declarators_levels, members_levels, init_levels, inits_levels, option_init_levels, init_declarator_levels, init_declarators_levels, local_levels, parameter_list_levels, parameters_levels, for_first_levels, stmt_levels, items_levels, unit_kind_levels, stmt_kind_levels, unit_levels, units_levels}
@@ -42,9 +42,9 @@ use Rattle.csyn.specs.declared.operator.PrefixOperator.{PrefixOperator}
 use Rattle.cgrammar.specs.declared.production.Production.{Production}
 use Rattle.cgrammar.specs.declared.production.Production.TheVariants as production
 use Rattle.cgrammar.specs.Grammar.{own_nodes}
-use Rattle.cparse.specs.declared.value.ExternalRest.TheVariants as rest_of
-use Rattle.cparse.specs.Parts.{and_then, pick, only, register_type, text, expr, exprs, optional_expr, type_name, ctype, base, words, qualifiers, pointers, declarator, declarators, member, members, init, optional_init, inits, init_declarator, init_declarators, object, stmt, optional_stmt, for_first, items, external_rest, function_end, parameters, parameter, parameter_list, unit, units}
-use Rattle.cparse.specs.Make.{table, first, last, identifier, literal, number, character, prefix_of, standard, specified, qualified, worded, no_words, if_of, external, expression_at}
+use Rattle.cparts.specs.declared.value.ExternalRest.TheVariants as rest_of
+use Rattle.cparts.specs.Parts.{and_then, pick, only, register_type, text, expr, exprs, optional_expr, type_name, ctype, base, words, qualifiers, pointers, declarator, declarators, member, members, init, optional_init, inits, init_declarator, init_declarators, object, stmt, optional_stmt, for_first, items, external_rest, function_end, parameters, parameter, parameter_list, unit, units}
+use Rattle.caction.specs.Make.{table, first, last, identifier, literal, number, character, prefix_of, standard, specified, qualified, worded, no_words, if_of, external, expression_at}
 
 abbrev pub branch_levels : Option (Box Stmt) → ℕ
 branch_levels None = 0

@@ -10,7 +10,7 @@ use Rattle.csyn.specs.Bare.{bare_units}
 use Rattle.csyn.specs.Tree.{Contents}
 use Rattle.cgrammar.specs.Kind.{kind_of}
 use Rattle.cgrammar.specs.Text.{Written, IsText, IsFirstFault}
-use Rattle.cparse.specs.declared.value.Value.TheVariants.{Units}
+use Rattle.cparts.specs.declared.value.Value.TheVariants.{Units}
 use Rattle.cparse.specs.Nodes.{nodes, deep, IsFirstDeep}
 use Rattle.cparse.specs.Tree.{value}
 use Rattle.cparse.specs.Parsed.{Yields, FaultAt, IsFault, unreadable, too_deep, Same, kind_cause}

@@ -9,9 +9,9 @@ use Rattle.cgrammar.specs.declared.production.Production.{Production}
 use Rattle.cgrammar.specs.declared.production.Production.TheVariants as production
 use Rattle.cgrammar.specs.Grammar.{own_nodes, is_node}
 use Rattle.cgrammar.specs.Text.{Written, leaf, node, Forest, none, more, spell, spells}
-use Rattle.cparse.specs.declared.value.Value.{Value}
-use Rattle.cparse.specs.declared.value.Value.TheVariants as value
-use Rattle.cparse.specs.Make.{mark_at}
+use Rattle.cparts.specs.declared.value.Value.{Value}
+use Rattle.cparts.specs.declared.value.Value.TheVariants as value
+use Rattle.caction.specs.Make.{mark_at}
 use Rattle.cparse.specs.Nodes.{nodes, nodes_of, deep, deep_of, deep_here, below}
 use Rattle.cparse.specs.Tree.{value as value_of, values, place_of, in_front, made as made_of}
 use Rattle.cparse.proofs.MadeLevels.{value_levels, greatest, AtMost, unmade, at_most, raise, table-levels}

@@ -6,10 +6,10 @@ use Rattle.std.specs.Option.{option_map}
 use Rattle.csyn.specs.declared.token.Token.{Token}
 use Rattle.cgrammar.specs.Grammar.{template, parts_among, is_node}
 use Rattle.creader.specs.declared.reader.Entry.{Entry}
-use Rattle.cparse.specs.declared.value.Value.{Value}
-use Rattle.cparse.specs.Make.{make}
+use Rattle.cparts.specs.declared.value.Value.{Value}
+use Rattle.caction.specs.Make.{make}
 use Rattle.cparse.specs.Build.{built, build_one, with_value, place_in}
-use Rattle.cparse.specs.Value.{bare_value, bare_values}
+use Rattle.cparts.specs.Value.{bare_value, bare_values}
 
 map-reverse-onto : {A B : Type 0} (f : A → B) (xs front : List A) → map f (reverse_aux xs front) ≡ reverse_aux (map f xs) (map f front)
 map-reverse-onto f [] front = refl

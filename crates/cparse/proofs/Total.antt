@@ -1,5 +1,6 @@
 -- Each proper tree of a production in use has a value, of the kind that its class has.
-use Rattle.std.proofs.Common.{◌≡◌, ℕ, ◌+◌, ◌-◌, Bool, true, false, ◌&&◌, List, [], ◌∷◌, ◌++◌, length, Option, Some, slice_get, refl, sym, subst, arith, length-append}
+use Rattle.std.proofs.Common.{◌≡◌, ℕ, ◌+◌, ◌-◌, true, List, [], ◌∷◌, ◌++◌, length, Option, Some, slice_get, refl, sym, subst, arith, length-append}
+use Rattle.std.specs.Cmp.{first_so, second_so}
 use Rattle.csyn.specs.declared.token.Token.{Token}
 use Rattle.csyn.specs.declared.unit.Units.{Units}
 use Rattle.cgrammar.specs.declared.terminal.Terminal.{Terminal}
@@ -9,9 +10,9 @@ use Rattle.cgrammar.specs.declared.production.Production.{Production}
 use Rattle.cgrammar.specs.declared.production.Production.TheVariants as production
 use Rattle.cgrammar.specs.Grammar.{Piece, token, part, home, template, assignment_class, joined, before, alone, source}
 use Rattle.cgrammar.specs.Text.{Written, leaf, node, Forest, none, more, spell, spells, Stands, IsProper, Match}
-use Rattle.cparse.specs.declared.value.Value.{Value}
-use Rattle.cparse.specs.declared.value.Value.TheVariants as value
-use Rattle.cparse.specs.Make.{mark_at}
+use Rattle.cparts.specs.declared.value.Value.{Value}
+use Rattle.cparts.specs.declared.value.Value.TheVariants as value
+use Rattle.caction.specs.Make.{mark_at}
 use Rattle.cparse.specs.Nodes.{nodes, nodes_of}
 use Rattle.cparse.specs.Tree.{value as value_of, values, place_of, in_front, made as made_of}
 use Rattle.cparse.proofs.Shape.{Shape, units, nothing, is_units, shape, shapes, under-shape, Fits, end, and, Made, made, unused, is_used, all_used}
@@ -84,14 +85,6 @@ unfolding is_used
 join (made is) u (fitting all) = fitting (and is all)
 join unused u _ = absurd (cc)
 
-pub and-first : (a b : Bool) → (a && b) ≡ true → a ≡ true
-and-first true b h = refl
-and-first false b h = absurd (cc)
-
-pub and-second : (a b : Bool) → (a && b) ≡ true → b ≡ true
-and-second true b h = h
-and-second false b h = absurd (cc)
-
 -- a production makes a value of all its parts' values
 from-parts : (p : Production) (number : ℕ) (tokens : List Token) (vs : Option (List Value)) → Fitting (shapes (template p)) vs → OwnTokens p tokens
     → Made (shape (home p)) (made_of p (place_of number tokens) vs)
@@ -122,8 +115,8 @@ mutual
   have-values number (token _ ∷ pieces) (more (node _ _) parts) m u = absurd m.0
   have-values number (part _ ∷ pieces) (more (leaf _) parts) m u = absurd m.0
   have-values number (part c ∷ pieces) (more (node q own) parts) m u =
-      join (subst (λ s. Made s (value_of number (node q own))) (under-shape (home q) c m.0) (has-value number (node q own) m.1)) (and-first (is_used (shape c)) (all_used (shapes pieces)) u)
-      (have-values (number + nodes (node q own)) pieces parts m.3 (and-second (is_used (shape c)) (all_used (shapes pieces)) u))
+      join (subst (λ s. Made s (value_of number (node q own))) (under-shape (home q) c m.0) (has-value number (node q own) m.1)) (first_so (is_used (shape c)) (all_used (shapes pieces)) u)
+      (have-values (number + nodes (node q own)) pieces parts m.3 (second_so (is_used (shape c)) (all_used (shapes pieces)) u))
 
 -- the units of a value that has some
 of-units : {o : Option Value} → Made units o → (u : Units) × (o ≡ Some (value.Units u))

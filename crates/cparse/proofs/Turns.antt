@@ -11,11 +11,11 @@ use Rattle.cgrammar.specs.Text.{Written, IsText}
 use Rattle.cgrammar.specs.Grammar.{is_node}
 use Rattle.creader.specs.declared.reader.Entry.{Entry}
 use Rattle.creader.specs.Entries.{entries}
-use Rattle.cparse.specs.declared.value.Value.{Value}
+use Rattle.cparts.specs.declared.value.Value.{Value}
 use Rattle.cparse.specs.Nodes.{nodes}
 use Rattle.cparse.specs.Tree.{value}
 use Rattle.cparse.specs.Build.{Built, built, build, build_one, with_value}
-use Rattle.cparse.specs.Value.{bare_value, bare_values}
+use Rattle.cparts.specs.Value.{bare_value, bare_values}
 use Rattle.cparse.proofs.Built.{whole-built}
 use Rattle.cparse.proofs.Within.{Lies, lies-at}
 

@@ -4,8 +4,8 @@ use Rattle.std.specs.Option.{option_and_then}
 use Rattle.csyn.specs.declared.token.Token.{Token}
 use Rattle.cgrammar.specs.Grammar.{template, parts_among, is_node}
 use Rattle.creader.specs.declared.reader.Entry.{Entry}
-use Rattle.cparse.specs.declared.value.Value.{Value}
-use Rattle.cparse.specs.Make.{Place, make}
+use Rattle.cparts.specs.declared.value.Value.{Value}
+use Rattle.caction.specs.Make.{Place, make}
 
 -- the values so far, the last first, and how many nodes have ended
 pub record Built : Type 0 where

@@ -4,7 +4,7 @@ use Rattle.csyn.specs.declared.token.Token.{Token}
 use Rattle.creader.specs.declared.reader.Entry.{Entry}
 use Rattle.cparse.specs.declared.build.Builder.{Builder}
 use Rattle.cparse.specs.Build.{Built, built, build_one}
-use Rattle.cparse.specs.Value.{bare_values}
+use Rattle.cparts.specs.Value.{bare_values}
 
 abbrev pub built_of : Builder → Built
 built_of builder = built (bare_values builder.values) builder.nodes

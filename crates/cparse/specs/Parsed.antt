@@ -13,7 +13,7 @@ use Rattle.cgrammar.specs.declared.kind.Kind.{Kind}
 use Rattle.cgrammar.specs.declared.kind.Kind.TheVariants as kind
 use Rattle.cgrammar.specs.Kind.{kind_of}
 use Rattle.cgrammar.specs.Text.{Written, IsText, IsFirstFault}
-use Rattle.cparse.specs.declared.value.Value.TheVariants.{Units}
+use Rattle.cparts.specs.declared.value.Value.TheVariants.{Units}
 use Rattle.cparse.specs.Nodes.{nodes, deep, IsFirstDeep}
 use Rattle.cparse.specs.Tree.{value}
 

@@ -3,9 +3,9 @@ use Rattle.std.specs.Prelude.{ℕ, ◌+◌, List, [], ◌∷◌, Option, Some, N
 use Rattle.csyn.specs.declared.token.Token.{Token}
 use Rattle.cgrammar.specs.declared.production.Production.{Production}
 use Rattle.cgrammar.specs.Text.{Written, leaf, node, Forest, none, more, spells}
-use Rattle.cparse.specs.declared.value.Value.{Value}
+use Rattle.cparts.specs.declared.value.Value.{Value}
 use Rattle.cparse.specs.Nodes.{nodes, nodes_of}
-use Rattle.cparse.specs.Make.{Place, make}
+use Rattle.caction.specs.Make.{Place, make}
 
 -- a value in front of others, where all are there
 abbrev pub in_front : Option Value → Option (List Value) → Option (List Value)

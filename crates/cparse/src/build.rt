@@ -4,13 +4,13 @@ ghost use Rattle.std.specs.Option.{option_map};
 ghost use Rattle.std.specs.Prelude.{ℕ, Some};
 ghost use Rattle.cgrammar.specs.Text.{Written, IsText};
 ghost use Rattle.creader.specs.Entries.{entries as entries_at};
-ghost use Rattle.cparse.specs.declared.value.Value.{Value};
+ghost use Rattle.cparts.specs.declared.value.Value.{Value};
 ghost use Rattle.cparse.specs.Nodes.{nodes};
 ghost use Rattle.cparse.specs.Tree.{value as value_of};
-ghost use Rattle.cparse.specs.Value.{bare_value};
+ghost use Rattle.cparts.specs.Value.{bare_value};
 
-use crate::make::make;
-use crate::value::Value;
+use caction::make;
+use cparts::Value;
 use creader::Entry;
 use csyn::Token;
 use std::alloc::{AllocError, Global};

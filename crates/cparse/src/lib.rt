@@ -4,10 +4,7 @@
 mod build;
 mod laws;
 mod levels;
-mod make;
 mod parser;
-mod parts;
-mod value;
 
 pub use laws::{one_first_deep, one_reading, tree_or_fault};
 pub use parser::parse;

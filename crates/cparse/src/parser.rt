@@ -9,8 +9,8 @@ ghost use Rattle.cparse.specs.Parsed as parsed;
 
 use crate::build::build;
 use crate::levels::first_deep;
-use crate::value::Value;
 use cgrammar::Kind;
+use cparts::Value;
 use creader::{ReadFault, one_text, read_entries};
 use csyn::{Cause, SourceFault, Token, Tree, Units};
 use std::alloc::Global;

@@ -4,7 +4,7 @@ use Rattle.cgrammar.specs.declared.production.Production.TheVariants as make
 use Rattle.creader.specs.declared.reader.Entry.{Entry}
 use Rattle.cparse.specs.Build as specs
 use Rattle.cparse.specs.Builder.{built_of, Steps}
-use Rattle.cparse.specs.Value.{bare_values}
+use Rattle.cparts.specs.Value.{bare_values}
 use Rattle.cparse.proofs.Turns as turns
 use Rattle.cparse.proofs.Within.{Lies}
 use Rattle.cparse.proofs.build.build.Goals as goal

@@ -1,5 +1,5 @@
 -- What the parser answers at each of its exits.
-use Rattle.std.proofs.Common.{◌≡◌, ◌∙◌, ◌+◌, ◌-◌, ◌<◌, List, Some, None, length, get_or, sym, ap, subst, arith, ◌≤◌, ◌∷◌, [], length-append}
+use Rattle.std.proofs.Common.{◌≡◌, ◌∙◌, ◌-◌, ◌<◌, List, Some, None, length, get_or, sym, ap, subst, arith, ◌≤◌}
 use Rattle.std.specs.Prelude.{slice_get}
 use Rattle.std.specs.Option.{option_map}
 use Rattle.csyn.specs.declared.token.Token.{Token}
@@ -12,10 +12,10 @@ use Rattle.csyn.specs.Levels.{units_levels}
 use Rattle.csyn.specs.Tree.{Contents}
 use Rattle.cgrammar.specs.Text.{Written, IsText, IsFirstFault}
 use Rattle.creader.specs.Entries.{entries}
-use Rattle.creader.specs.Source.{EndsOnce, IsFaultOf}
-use Rattle.cparse.specs.declared.value.Value.TheVariants as Value
+use Rattle.creader.specs.Source.{IsFaultOf}
+use Rattle.cparts.specs.declared.value.Value.TheVariants as Value
 use Rattle.cparse.specs.Tree.{value}
-use Rattle.cparse.specs.Value.{bare_value}
+use Rattle.cparts.specs.Value.{bare_value}
 use Rattle.cparse.proofs.Ascending.{none-is-deep}
 use Rattle.cparse.proofs.BareLevels.{units-bare}
 use Rattle.cparse.proofs.Readings.{trees-agree, no-tree}

@@ -1,7 +1,7 @@
 -- One production made of the last values.
 use Rattle.std.proofs.Common.{true, false, Some, sym, ap, ◌∙◌, ◌∷◌, ◌+◌, add-zero}
 use Rattle.cparse.specs.Build.{built}
-use Rattle.cparse.specs.Value.{bare_values}
+use Rattle.cparts.specs.Value.{bare_values}
 use Rattle.cparse.proofs.StepMade.{step-none, step-some}
 use Rattle.cparse.proofs.build.Builder.step.Goals as goal
 

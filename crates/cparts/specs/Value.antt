@@ -2,10 +2,10 @@
 use Rattle.std.specs.Prelude.{List, map}
 use Rattle.std.specs.Option.{option_map}
 use Rattle.csyn.specs.Bare.{option_bare, bare_pointers, bare_type_name, bare_expr, bare_exprs, bare_declarator, bare_declarators, bare_member, bare_members, bare_init, bare_inits, bare_init_declarator, bare_init_declarators, bare_local, bare_parameter, bare_parameter_list, bare_parameters, bare_for_first, bare_stmt, bare_items, bare_unit, bare_units}
-use Rattle.cparse.specs.declared.value.ExternalRest.{ExternalRest}
-use Rattle.cparse.specs.declared.value.ExternalRest.TheVariants as rest
-use Rattle.cparse.specs.declared.value.Value.{Value}
-use Rattle.cparse.specs.declared.value.Value.TheVariants as value
+use Rattle.cparts.specs.declared.value.ExternalRest.{ExternalRest}
+use Rattle.cparts.specs.declared.value.ExternalRest.TheVariants as rest
+use Rattle.cparts.specs.declared.value.Value.{Value}
+use Rattle.cparts.specs.declared.value.Value.TheVariants as value
 
 abbrev pub bare_rest : ExternalRest → ExternalRest
 bare_rest (rest.Object o) = rest.Object (record {

@@ -1,20 +1,19 @@
 //! Expressions.
-#![tactic(auto, unfolding(crate::specs::Make::table, crate::specs::Parts::pick))]
+#![tactic(auto, unfolding(crate::specs::Make::table, cparts::specs::Parts::pick))]
 
 ghost use Rattle.std.specs.Prelude.{IfOk, List};
 ghost use Rattle.csyn.specs.declared.mark.Mark.{Mark};
 ghost use Rattle.csyn.specs.declared.token.Token.{Token};
 ghost use Rattle.cgrammar.specs.declared.production.Production.TheVariants as production;
-ghost use Rattle.cparse.specs.Make.{Makes};
+ghost use Rattle.caction.specs.Make.{Makes};
 ghost use Rattle.std.specs.Prelude.{◌≡◌};
 ghost use Rattle.std.specs.Option.{option_map};
 ghost use Rattle.csyn.specs.Bare.{bare_expr};
-ghost use Rattle.cparse.specs.Value.{bare_value};
-ghost use Rattle.cparse.specs.Make as specs;
+ghost use Rattle.cparts.specs.Value.{bare_value};
+ghost use Rattle.caction.specs.Make as specs;
 
-use crate::make::token::prefix_operator;
-use crate::parts::Parts;
-use crate::value::Value;
+use crate::token::prefix_operator;
+use cparts::{Parts, Value};
 use csyn::{BinaryOperator, Expr, ExprKind, Mark, Member, PostfixOperator, PrefixOperator, Token};
 use std::alloc::{AllocError, Global};
 

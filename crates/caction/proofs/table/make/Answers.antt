@@ -2,8 +2,8 @@
 use Rattle.std.proofs.Common.{◌≡◌, IfOk, subst, sym}
 use Rattle.csyn.specs.declared.mark.Mark.{Mark}
 use Rattle.cgrammar.specs.declared.production.Production.{Production}
-use Rattle.cparse.specs.Make.{table, Makes}
-use Rattle.cparse.proofs.make.make.Goals as goal
+use Rattle.caction.specs.Make.{table, Makes}
+use Rattle.caction.proofs.table.make.Goals as goal
 
 -- what holds of the variant and of the mark that was made
 along : (P : Production → Mark → Type 0) {p q : Production} {m n : Mark} → p ≡ q → m ≡ n → P q m → P p n

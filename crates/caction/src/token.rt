@@ -1,5 +1,5 @@
 //! Values that depend on a token.
-#![tactic(auto, unfolding(crate::specs::Make::table, crate::specs::Parts::pick))]
+#![tactic(auto, unfolding(crate::specs::Make::table, cparts::specs::Parts::pick))]
 
 ghost use Rattle.std.specs.Prelude.{◌≡◌, IfOk};
 ghost use Rattle.std.specs.Option.{option_copied, option_map};
@@ -7,13 +7,12 @@ ghost use Rattle.csyn.specs.declared.mark.Mark.{Mark};
 ghost use Rattle.cgrammar.specs.declared.production.Production.TheVariants as production;
 ghost use Rattle.cgrammar.specs.declared.production.Words.{Words};
 ghost use Rattle.cgrammar.specs.declared.production.Word.{Word};
-ghost use Rattle.cparse.specs.declared.value.Value.TheVariants as value;
-ghost use Rattle.cparse.specs.Value.{bare_value};
-ghost use Rattle.cparse.specs.Make.{Makes};
-ghost use Rattle.cparse.specs.Make as specs;
+ghost use Rattle.cparts.specs.declared.value.Value.TheVariants as value;
+ghost use Rattle.cparts.specs.Value.{bare_value};
+ghost use Rattle.caction.specs.Make.{Makes};
+ghost use Rattle.caction.specs.Make as specs;
 
-use crate::parts::Parts;
-use crate::value::Value;
+use cparts::{Parts, Value};
 use csyn::{
     Base, CType, Character, Expr, ExprKind, IntegerWords, Keyword, Length, Mark, Number, Pointer,
     PrefixOperator, Punctuator, Sign, Text, Token, TokenKind,

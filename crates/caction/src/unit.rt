@@ -1,18 +1,17 @@
 //! Units.
-#![tactic(auto, unfolding(crate::specs::Make::table, crate::specs::Parts::pick))]
+#![tactic(auto, unfolding(crate::specs::Make::table, cparts::specs::Parts::pick))]
 
 ghost use Rattle.std.specs.Prelude.{IfOk, List};
 ghost use Rattle.csyn.specs.declared.mark.Mark.{Mark};
 ghost use Rattle.csyn.specs.declared.token.Token.{Token};
 ghost use Rattle.cgrammar.specs.declared.production.Production.TheVariants as production;
-ghost use Rattle.cparse.specs.Make.{Makes};
+ghost use Rattle.caction.specs.Make.{Makes};
 ghost use Rattle.std.specs.Prelude.{◌≡◌};
 ghost use Rattle.csyn.specs.Bare.{bare_pointers, bare_unit_kind};
-ghost use Rattle.cparse.specs.Value.{bare_rest};
-ghost use Rattle.cparse.specs.Make as specs;
+ghost use Rattle.cparts.specs.Value.{bare_rest};
+ghost use Rattle.caction.specs.Make as specs;
 
-use crate::parts::Parts;
-use crate::value::{ExternalRest, ObjectRest, Value};
+use cparts::{ExternalRest, ObjectRest, Parts, Value};
 use csyn::{
     CType, Declarator, Head, InitDeclarator, InitDeclarators, Mark, Members, Object, Pointers,
     Text, Unit, UnitKind,

@@ -26,9 +26,9 @@ use Rattle.csyn.specs.declared.statement.Stmt.{Stmt}
 use Rattle.csyn.specs.declared.statement.Items.{Items}
 use Rattle.csyn.specs.declared.unit.Unit as declared_unit
 use Rattle.csyn.specs.declared.unit.Units.{Units}
-use Rattle.cparse.specs.declared.value.ExternalRest.{ExternalRest}
-use Rattle.cparse.specs.declared.value.Value.{Value}
-use Rattle.cparse.specs.declared.value.Value.TheVariants as value
+use Rattle.cparts.specs.declared.value.ExternalRest.{ExternalRest}
+use Rattle.cparts.specs.declared.value.Value.{Value}
+use Rattle.cparts.specs.declared.value.Value.TheVariants as value
 
 abbrev pub text : Value → Option (List ℕ)
 text (value.Text x) = Some x

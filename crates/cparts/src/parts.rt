@@ -2,9 +2,9 @@
 ghost use Rattle.std.specs.Prelude.{◌≡◌, ◌∷◌, Some, None, MatchOption};
 ghost use Rattle.std.specs.Option.{option_map};
 ghost use Rattle.csyn.specs.Bare.{option_bare, bare_declarator, bare_declarators, bare_expr, bare_exprs, bare_for_first, bare_init, bare_init_declarator, bare_init_declarators, bare_inits, bare_items, bare_local, bare_member, bare_members, bare_parameter, bare_parameter_list, bare_parameters, bare_pointers, bare_stmt, bare_type_name, bare_unit, bare_units};
-ghost use Rattle.cparse.specs.Value.{bare_rest, bare_value, bare_values};
-ghost use Rattle.cparse.specs.Parts as specs;
-ghost use Rattle.cparse.specs.declared.value.Value.TheVariants as value;
+ghost use Rattle.cparts.specs.Value.{bare_rest, bare_value, bare_values};
+ghost use Rattle.cparts.specs.Parts as specs;
+ghost use Rattle.cparts.specs.declared.value.Value.TheVariants as value;
 
 use crate::value::{ExternalRest, Value};
 use csyn::{
@@ -14,7 +14,8 @@ use csyn::{
 };
 use std::collections::LinkedList;
 
-/// The values that are left.
+/// The values that are left. Each call but `perhaps` and `only` takes the first of them, and answers `None` where none is left or
+/// where it is of another kind than the call is named for.
 #[derive(Debug, Drop)]
 pub struct Parts {
     pub values: LinkedList<Value>,

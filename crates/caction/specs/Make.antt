@@ -43,12 +43,12 @@ use Rattle.csyn.specs.declared.unit.UnitKind.TheVariants as unit_of
 use Rattle.csyn.specs.declared.unit.Units as units_of
 use Rattle.cgrammar.specs.declared.production.Production.{Production}
 use Rattle.cgrammar.specs.declared.production.Production.TheVariants as production
-use Rattle.cparse.specs.declared.value.ExternalRest.{ExternalRest}
-use Rattle.cparse.specs.declared.value.ExternalRest.TheVariants as rest_of
-use Rattle.cparse.specs.declared.value.Value.{Value}
-use Rattle.cparse.specs.declared.value.Value.TheVariants as value
-use Rattle.cparse.specs.Value.{bare_value, bare_values}
-use Rattle.cparse.specs.Parts.{none, one, two, three, four, only, perhaps, text, expr, exprs, optional_expr, type_name, ctype, base, words, qualifiers, pointers, declarator, declarators, member, members, init, optional_init, inits, init_declarator, init_declarators, object, stmt, optional_stmt, for_first, items, external_rest, function_end, parameters, parameter, parameter_list, unit, units, register_type}
+use Rattle.cparts.specs.declared.value.ExternalRest.{ExternalRest}
+use Rattle.cparts.specs.declared.value.ExternalRest.TheVariants as rest_of
+use Rattle.cparts.specs.declared.value.Value.{Value}
+use Rattle.cparts.specs.declared.value.Value.TheVariants as value
+use Rattle.cparts.specs.Value.{bare_value, bare_values}
+use Rattle.cparts.specs.Parts.{none, one, two, three, four, only, perhaps, text, expr, exprs, optional_expr, type_name, ctype, base, words, qualifiers, pointers, declarator, declarators, member, members, init, optional_init, inits, init_declarator, init_declarators, object, stmt, optional_stmt, for_first, items, external_rest, function_end, parameters, parameter, parameter_list, unit, units, register_type}
 
 -- where a production stands: how many nodes end before it does, and its tokens, its parts' among them
 pub record Place : Type 0 where

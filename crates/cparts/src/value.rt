@@ -1,3 +1,5 @@
+//! What productions make: names, words, parts of declarations, expressions, statements, units, and lists of them.
+
 use csyn::{
     Base, CType, Declarator, Declarators, Expr, Exprs, ForFirst, Init, InitDeclarator,
     InitDeclarators, Inits, IntegerWords, Items, LocalObject, Member, Members, Parameter,
@@ -21,7 +23,8 @@ pub enum ExternalRest {
     Function(Parameters, Option<Items>),
 }
 
-/// What a production makes of its parts.
+/// What a production makes of its parts. Each call takes it apart as the kind that the call is named for, and answers `None` where it
+/// is of another kind.
 #[derive(Debug, Drop)]
 pub enum Value {
     Text(Text),
@@ -62,8 +65,8 @@ impl Value {
     ghost use Rattle.std.specs.Prelude.{◌≡◌};
     ghost use Rattle.std.specs.Option.{option_map};
     ghost use Rattle.csyn.specs.Bare.{option_bare, bare_declarator, bare_declarators, bare_expr, bare_exprs, bare_for_first, bare_init, bare_init_declarator, bare_init_declarators, bare_inits, bare_items, bare_local, bare_member, bare_members, bare_parameter, bare_parameter_list, bare_parameters, bare_pointers, bare_stmt, bare_type_name, bare_unit, bare_units};
-    ghost use Rattle.cparse.specs.Value.{bare_rest, bare_value};
-    ghost use Rattle.cparse.specs.Parts as specs;
+    ghost use Rattle.cparts.specs.Value.{bare_rest, bare_value};
+    ghost use Rattle.cparts.specs.Parts as specs;
 
     pub fn text(self) -> Option<Text>
         ensures { result ≡ specs.text (bare_value self) }

@@ -1,20 +1,12 @@
 //! What each production makes of the values of its parts.
 ghost use Rattle.std.specs.Prelude.{◌≡◌, ◌<◌, ◌^◌, IfOk, length};
 ghost use Rattle.std.specs.Option.{option_map};
-ghost use Rattle.cparse.specs.Value.{bare_value, bare_values};
-ghost use Rattle.cparse.specs.Make as specs;
+ghost use Rattle.cparts.specs.Value.{bare_value, bare_values};
+ghost use Rattle.caction.specs.Make as specs;
 
-mod declaration;
-mod expression;
-mod list;
-mod statement;
-mod token;
-mod types;
-mod unit;
-
-use crate::parts::Parts;
-use crate::value::Value;
+use crate::{declaration, expression, list, statement, token, types, unit};
 use cgrammar::Production;
+use cparts::{Parts, Value};
 use csyn::{Mark, Span, Token};
 use std::alloc::{AllocError, Global};
 use std::collections::LinkedList;

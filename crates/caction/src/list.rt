@@ -1,14 +1,13 @@
 //! What is made in a row: arguments, lengths, members, items, units and the like.
-#![tactic(auto, unfolding(crate::specs::Make::table, crate::specs::Parts::pick))]
+#![tactic(auto, unfolding(crate::specs::Make::table, cparts::specs::Parts::pick))]
 
 ghost use Rattle.std.specs.Prelude.{IfOk, List};
 ghost use Rattle.csyn.specs.declared.mark.Mark.{Mark};
 ghost use Rattle.csyn.specs.declared.token.Token.{Token};
 ghost use Rattle.cgrammar.specs.declared.production.Production.TheVariants as production;
-ghost use Rattle.cparse.specs.Make.{Makes};
+ghost use Rattle.caction.specs.Make.{Makes};
 
-use crate::parts::Parts;
-use crate::value::Value;
+use cparts::{Parts, Value};
 use csyn::{
     Declarators, Exprs, InitDeclarators, Inits, Items, Members, Object, ParameterList, Units,
 };

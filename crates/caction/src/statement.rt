@@ -1,17 +1,16 @@
 //! Statements.
-#![tactic(auto, unfolding(crate::specs::Make::table, crate::specs::Parts::pick))]
+#![tactic(auto, unfolding(crate::specs::Make::table, cparts::specs::Parts::pick))]
 
 ghost use Rattle.std.specs.Prelude.{IfOk, List};
 ghost use Rattle.csyn.specs.declared.mark.Mark.{Mark};
 ghost use Rattle.csyn.specs.declared.token.Token.{Token};
 ghost use Rattle.cgrammar.specs.declared.production.Production.TheVariants as production;
-ghost use Rattle.cparse.specs.Make.{Makes};
+ghost use Rattle.caction.specs.Make.{Makes};
 ghost use Rattle.std.specs.Prelude.{◌≡◌};
 ghost use Rattle.csyn.specs.Bare.{bare_expr, bare_stmt, bare_stmt_kind, option_bare};
-ghost use Rattle.cparse.specs.Make.{if_of};
+ghost use Rattle.caction.specs.Make.{if_of};
 
-use crate::parts::Parts;
-use crate::value::Value;
+use cparts::{Parts, Value};
 use csyn::{Expr, ForFirst, Mark, Object, Stmt, StmtKind};
 use std::alloc::{AllocError, Global};
 

@@ -1,14 +1,13 @@
 //! Declarations.
-#![tactic(auto, unfolding(crate::specs::Make::table, crate::specs::Parts::pick))]
+#![tactic(auto, unfolding(crate::specs::Make::table, cparts::specs::Parts::pick))]
 
 ghost use Rattle.std.specs.Prelude.{IfOk, List};
 ghost use Rattle.csyn.specs.declared.mark.Mark.{Mark};
 ghost use Rattle.csyn.specs.declared.token.Token.{Token};
 ghost use Rattle.cgrammar.specs.declared.production.Production.TheVariants as production;
-ghost use Rattle.cparse.specs.Make.{Makes};
+ghost use Rattle.caction.specs.Make.{Makes};
 
-use crate::parts::Parts;
-use crate::value::Value;
+use cparts::{Parts, Value};
 use csyn::{
     Declarator, Declarators, Exprs, Init, InitDeclarator, InitDeclarators, Inits, LocalObject,
     Mark, Member, Object, Parameter, ParameterList, Parameters,

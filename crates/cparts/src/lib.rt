@@ -1,0 +1,8 @@
+//! What the productions of a C source are made into, and a production's parts, taken in order.
+#![tactic(auto)]
+
+mod parts;
+mod value;
+
+pub use parts::Parts;
+pub use value::{ExternalRest, ObjectRest, Value};
