@@ -1,5 +1,5 @@
 -- What each production makes of the values of its parts, all without pointers.
-use Rattle.std.specs.Prelude.{◌≡◌, ℕ, ◌-◌, true, false, List, length, Option, Some, None, slice_get}
+use Rattle.std.specs.Prelude.{◌≡◌, ℕ, ◌-◌, true, false, List, length, Option, Some, None, Result, MatchResult, slice_get}
 use Rattle.std.specs.Option.{option_map}
 use Rattle.std.specs.Global.{Box}
 use Rattle.csyn.specs.Bare.{at_null}
@@ -43,6 +43,8 @@ use Rattle.csyn.specs.declared.unit.UnitKind.TheVariants as unit_of
 use Rattle.csyn.specs.declared.unit.Units as units_of
 use Rattle.cgrammar.specs.declared.production.Production.{Production}
 use Rattle.cgrammar.specs.declared.production.Production.TheVariants as production
+use Rattle.cparts.specs.declared.fault.MakeFault.{MakeFault}
+use Rattle.cparts.specs.declared.fault.MakeFault.TheVariants as fault
 use Rattle.cparts.specs.declared.value.ExternalRest.{ExternalRest}
 use Rattle.cparts.specs.declared.value.ExternalRest.TheVariants as rest_of
 use Rattle.cparts.specs.declared.value.Value.{Value}
@@ -271,6 +273,9 @@ table production.Source mark tokens = one units (λ all. value.Units all)
 abbrev pub make : Production → Place → List Value → Option Value
 make production place = table production (mark_at place) place.tokens
 
--- what a function made of these values, pointers aside, is what the production makes of them
-abbrev pub Makes : Production → Mark → List Token → List Value → Option Value → Type 0
-Makes production mark tokens vs made = option_map bare_value made ≡ table production mark tokens (bare_values vs)
+-- What a function answers is what is made, pointers aside, and it refuses its parts only where nothing is. It may lack memory.
+abbrev pub IsMade : Option Value → Result Value MakeFault → Type 0
+IsMade made result = MatchResult result (λ v. made ≡ Some (bare_value v)) (λ e. e ≡ fault.Parts → made ≡ None)
+
+abbrev pub Makes : Production → Mark → List Token → List Value → Result Value MakeFault → Type 0
+Makes production mark tokens vs = IsMade (table production mark tokens (bare_values vs))

@@ -8,11 +8,10 @@ ghost use Rattle.cgrammar.specs.declared.production.Production.TheVariants as pr
 ghost use Rattle.cgrammar.specs.declared.production.Words.{Words};
 ghost use Rattle.cgrammar.specs.declared.production.Word.{Word};
 ghost use Rattle.cparts.specs.declared.value.Value.TheVariants as value;
-ghost use Rattle.cparts.specs.Value.{bare_value};
-ghost use Rattle.caction.specs.Make.{Makes};
+ghost use Rattle.caction.specs.Make.{IsMade, Makes};
 ghost use Rattle.caction.specs.Make as specs;
 
-use cparts::{Parts, Value};
+use cparts::{MakeFault, Parts, Value};
 use csyn::{
     Base, CType, Character, Expr, ExprKind, IntegerWords, Keyword, Length, Mark, Number, Pointer,
     PrefixOperator, Punctuator, Sign, Text, Token, TokenKind,
@@ -43,47 +42,30 @@ fn copied(alloc: Global, text: &Text) -> Result<Text, AllocError>
     Ok(Text::new(text.as_bytes().to_vec(alloc)?))
 }
 
-fn named(alloc: Global, tokens: &[Token]) -> Result<Option<Value>, AllocError>
-    ensures { IfOk result (λ made. option_map bare_value made ≡ specs.identifier (specs.first tokens.now)) }
+pub fn identifier(alloc: Global, tokens: &[Token], parts: Parts) -> Result<Value, MakeFault>
+    ensures { (mark : Mark) → Makes production.Identifier mark tokens.now parts.values result }
 {
+    parts.end()?;
     match first(tokens) {
-        Some(TokenKind::Identifier(name)) => Ok(Some(Value::Text(copied(alloc, name)?))),
-        _ => Ok(None),
+        Some(TokenKind::Identifier(name)) => Ok(Value::Text(copied(alloc, name)?)),
+        _ => Err(MakeFault::Parts),
     }
 }
 
-pub fn identifier(
-    alloc: Global,
-    tokens: &[Token],
-    parts: Parts,
-) -> Result<Option<Value>, AllocError>
-    ensures { (mark : Mark) → IfOk result (Makes production.Identifier mark tokens.now parts.values) }
+pub fn region_name(alloc: Global, tokens: &[Token], parts: Parts) -> Result<Value, MakeFault>
+    ensures { (mark : Mark) → Makes production.RegionName mark tokens.now parts.values result }
 {
-    Ok(parts.perhaps(named(alloc, tokens)?))
-}
-
-fn quoted(alloc: Global, tokens: &[Token]) -> Result<Option<Value>, AllocError>
-    ensures { IfOk result (λ made. option_map bare_value made ≡ specs.literal (specs.first tokens.now)) }
-{
+    parts.end()?;
     match first(tokens) {
-        Some(TokenKind::Literal(bytes)) => Ok(Some(Value::Text(copied(alloc, bytes)?))),
-        _ => Ok(None),
+        Some(TokenKind::Literal(bytes)) => Ok(Value::Text(copied(alloc, bytes)?)),
+        _ => Err(MakeFault::Parts),
     }
 }
 
-pub fn region_name(
-    alloc: Global,
-    tokens: &[Token],
-    parts: Parts,
-) -> Result<Option<Value>, AllocError>
-    ensures { (mark : Mark) → IfOk result (Makes production.RegionName mark tokens.now parts.values) }
+pub fn number(alloc: Global, mark: Mark, tokens: &[Token], parts: Parts) -> Result<Value, MakeFault>
+    ensures { Makes production.Number mark tokens.now parts.values result }
 {
-    Ok(parts.perhaps(quoted(alloc, tokens)?))
-}
-
-fn numbered(alloc: Global, mark: Mark, tokens: &[Token]) -> Result<Option<Value>, AllocError>
-    ensures { IfOk result (λ made. option_map bare_value made ≡ specs.number mark (specs.first tokens.now)) }
-{
+    parts.end()?;
     match first(tokens) {
         Some(TokenKind::Number(number)) => {
             let spelling = copied(alloc, &number.spelling)?;
@@ -92,36 +74,9 @@ fn numbered(alloc: Global, mark: Mark, tokens: &[Token]) -> Result<Option<Value>
                 value: number.value,
                 is_unsigned: number.is_unsigned,
             });
-            Ok(Some(Value::Expr(Expr { mark, kind })))
+            Ok(Value::Expr(Expr { mark, kind }))
         }
-        _ => Ok(None),
-    }
-}
-
-pub fn number(
-    alloc: Global,
-    mark: Mark,
-    tokens: &[Token],
-    parts: Parts,
-) -> Result<Option<Value>, AllocError>
-    ensures { IfOk result (Makes production.Number mark tokens.now parts.values) }
-{
-    Ok(parts.perhaps(numbered(alloc, mark, tokens)?))
-}
-
-fn lettered(alloc: Global, mark: Mark, tokens: &[Token]) -> Result<Option<Value>, AllocError>
-    ensures { IfOk result (λ made. option_map bare_value made ≡ specs.character mark (specs.first tokens.now)) }
-{
-    match first(tokens) {
-        Some(TokenKind::Character(character)) => {
-            let spelling = copied(alloc, &character.spelling)?;
-            let kind = ExprKind::Character(Character {
-                spelling,
-                value: character.value,
-            });
-            Ok(Some(Value::Expr(Expr { mark, kind })))
-        }
-        _ => Ok(None),
+        _ => Err(MakeFault::Parts),
     }
 }
 
@@ -130,10 +85,21 @@ pub fn character(
     mark: Mark,
     tokens: &[Token],
     parts: Parts,
-) -> Result<Option<Value>, AllocError>
-    ensures { IfOk result (Makes production.Character mark tokens.now parts.values) }
+) -> Result<Value, MakeFault>
+    ensures { Makes production.Character mark tokens.now parts.values result }
 {
-    Ok(parts.perhaps(lettered(alloc, mark, tokens)?))
+    parts.end()?;
+    match first(tokens) {
+        Some(TokenKind::Character(character)) => {
+            let spelling = copied(alloc, &character.spelling)?;
+            let kind = ExprKind::Character(Character {
+                spelling,
+                value: character.value,
+            });
+            Ok(Value::Expr(Expr { mark, kind }))
+        }
+        _ => Err(MakeFault::Parts),
+    }
 }
 
 /// The first token as a prefix operator.
@@ -151,71 +117,52 @@ pub fn prefix_operator(tokens: &[Token]) -> Option<PrefixOperator>
     }
 }
 
-fn standing(tokens: &[Token]) -> Option<Value>
-    ensures { option_map bare_value result ≡ specs.standard (specs.first tokens.now) }
+pub fn standard_base(tokens: &[Token], parts: Parts) -> Result<Value, MakeFault>
+    ensures { (mark : Mark) → Makes production.StandardBase mark tokens.now parts.values result }
 {
+    parts.end()?;
     match first(tokens) {
-        Some(TokenKind::Standard(name)) => Some(Value::Base(Base::Standard(*name))),
-        _ => None,
+        Some(TokenKind::Standard(name)) => Ok(Value::Base(Base::Standard(*name))),
+        _ => Err(MakeFault::Parts),
     }
 }
 
-pub fn standard_base(tokens: &[Token], parts: Parts) -> Option<Value>
-    ensures { (mark : Mark) → Makes production.StandardBase mark tokens.now parts.values result }
+pub fn specified(tokens: &[Token], mut parts: Parts) -> Result<Value, MakeFault>
+    ensures { (mark : Mark) → Makes production.Specified mark tokens.now parts.values result }
 {
-    parts.perhaps(standing(tokens))
-}
-
-fn specify(mut ctype: CType, tokens: &[Token]) -> Option<Value>
-    ensures { option_map bare_value result ≡ option_map (λ t. value.CType t) (specs.specified ctype (specs.first tokens.now)) }
-{
+    let mut ctype: CType = parts.next()?;
+    parts.end()?;
     match first(tokens) {
         Some(TokenKind::Keyword(Keyword::Static)) => ctype.is_static = true,
         Some(TokenKind::Keyword(Keyword::Inline)) => ctype.is_inline = true,
         Some(TokenKind::Keyword(Keyword::Const)) => ctype.is_const = true,
         Some(TokenKind::Keyword(Keyword::Volatile)) => ctype.is_volatile = true,
-        _ => return None,
+        _ => return Err(MakeFault::Parts),
     }
-    Some(Value::CType(ctype))
+    Ok(Value::CType(ctype))
 }
 
-pub fn specified(tokens: &[Token], mut parts: Parts) -> Option<Value>
-    ensures { (mark : Mark) → Makes production.Specified mark tokens.now parts.values result }
-{
-    let Some(ctype) = parts.ctype() else {
-        return None;
-    };
-    parts.perhaps(specify(ctype, tokens))
-}
-
-fn qualify(q: Pointer, tokens: &[Token]) -> Option<Value>
-    ensures { option_map bare_value result ≡ option_map (λ r. value.Qualifiers r) (specs.qualified q (specs.first tokens.now)) }
-{
-    match first(tokens) {
-        Some(TokenKind::Keyword(Keyword::Const)) => Some(Value::Qualifiers(Pointer {
-            is_const: true,
-            is_volatile: q.is_volatile,
-        })),
-        Some(TokenKind::Keyword(Keyword::Volatile)) => Some(Value::Qualifiers(Pointer {
-            is_const: q.is_const,
-            is_volatile: true,
-        })),
-        _ => None,
-    }
-}
-
-pub fn qualified(tokens: &[Token], mut parts: Parts) -> Option<Value>
+pub fn qualified(tokens: &[Token], mut parts: Parts) -> Result<Value, MakeFault>
     ensures { (mark : Mark) → Makes production.Qualified mark tokens.now parts.values result }
 {
-    let Some(q) = parts.qualifiers() else {
-        return None;
-    };
-    parts.perhaps(qualify(q, tokens))
+    let qualifiers: Pointer = parts.next()?;
+    parts.end()?;
+    match first(tokens) {
+        Some(TokenKind::Keyword(Keyword::Const)) => Ok(Value::Qualifiers(Pointer {
+            is_const: true,
+            is_volatile: qualifiers.is_volatile,
+        })),
+        Some(TokenKind::Keyword(Keyword::Volatile)) => Ok(Value::Qualifiers(Pointer {
+            is_const: qualifiers.is_const,
+            is_volatile: true,
+        })),
+        _ => Err(MakeFault::Parts),
+    }
 }
 
 /// One more word of an integer type. The word `int` adds nothing.
-fn worded(words: IntegerWords, kind: Option<&TokenKind>) -> Option<Value>
-    ensures { option_map bare_value result ≡ option_map (λ w. value.Words w) (specs.worded words (option_copied kind.entry)) }
+fn worded(words: IntegerWords, kind: Option<&TokenKind>) -> Result<Value, MakeFault>
+    ensures { IsMade (option_map (λ w. value.Words w) (specs.worded words (option_copied kind.entry))) result }
 {
     let IntegerWords { sign, length } = words;
     let (sign, length) = match kind {
@@ -225,26 +172,26 @@ fn worded(words: IntegerWords, kind: Option<&TokenKind>) -> Option<Value>
         Some(TokenKind::Keyword(Keyword::Short)) => (sign, Some(Length::Short)),
         Some(TokenKind::Keyword(Keyword::Long)) => (sign, Some(Length::Long)),
         Some(TokenKind::Keyword(Keyword::Int)) => (sign, length),
-        _ => return None,
+        _ => return Err(MakeFault::Parts),
     };
-    Some(Value::Words(IntegerWords { sign, length }))
+    Ok(Value::Words(IntegerWords { sign, length }))
 }
 
-pub fn first_word(tokens: &[Token], parts: Parts) -> Option<Value>
+pub fn first_word(tokens: &[Token], parts: Parts) -> Result<Value, MakeFault>
     ensures { (word : Word) (mark : Mark) → Makes (production.FirstWord word) mark tokens.now parts.values result }
 {
     let none = IntegerWords {
         sign: None,
         length: None,
     };
-    parts.perhaps(worded(none, first(tokens)))
+    parts.end()?;
+    worded(none, first(tokens))
 }
 
-pub fn next_word(tokens: &[Token], mut parts: Parts) -> Option<Value>
+pub fn next_word(tokens: &[Token], mut parts: Parts) -> Result<Value, MakeFault>
     ensures { (all : Words) (word : Word) (mark : Mark) → Makes (production.NextWord all word) mark tokens.now parts.values result }
 {
-    let Some(words) = parts.words() else {
-        return None;
-    };
-    parts.perhaps(worded(words, last(tokens)))
+    let words = parts.next()?;
+    parts.end()?;
+    worded(words, last(tokens))
 }

@@ -11,73 +11,57 @@ ghost use Rattle.csyn.specs.Bare.{bare_pointers, bare_unit_kind};
 ghost use Rattle.cparts.specs.Value.{bare_rest};
 ghost use Rattle.caction.specs.Make as specs;
 
-use cparts::{ExternalRest, ObjectRest, Parts, Value};
+use cparts::{ExternalRest, MakeFault, ObjectRest, Parts, Value};
 use csyn::{
     CType, Declarator, Head, InitDeclarator, InitDeclarators, Mark, Members, Object, Pointers,
     Text, Unit, UnitKind,
 };
 use std::alloc::{AllocError, Global};
 
-pub fn struct_unit(alloc: Global, mark: Mark, mut parts: Parts) -> Result<Option<Value>, AllocError>
-    ensures { (tokens : List Token) → IfOk result (Makes production.StructUnit mark tokens parts.values) }
+pub fn struct_unit(alloc: Global, mark: Mark, mut parts: Parts) -> Result<Value, MakeFault>
+    ensures { (tokens : List Token) → Makes production.StructUnit mark tokens parts.values result }
 {
-    let Some(tag) = parts.text() else {
-        return Ok(None);
-    };
-    let Some(m) = parts.member() else {
-        drop(tag);
-        return Ok(None);
-    };
-    let Some(rest) = parts.members() else {
-        drop((tag, m));
-        return Ok(None);
-    };
-    Ok(parts.only(Value::Unit(Unit {
+    let tag = parts.next()?;
+    let first = parts.next()?;
+    let rest = parts.next()?;
+    parts.end()?;
+    Ok(Value::Unit(Unit {
         mark,
         kind: UnitKind::Struct(
             tag,
-            Members::More(Box::new(alloc, m)?, Box::new(alloc, rest)?),
+            Members::More(Box::new(alloc, first)?, Box::new(alloc, rest)?),
         ),
-    })))
+    }))
 }
 
-pub fn register_unit(mark: Mark, mut parts: Parts) -> Option<Value>
+pub fn register_unit(mark: Mark, mut parts: Parts) -> Result<Value, MakeFault>
     ensures { (tokens : List Token) → Makes production.RegisterUnit mark tokens parts.values result }
 {
-    let Some(_register) = parts.register_type() else {
-        return None;
-    };
-    parts.only(Value::Unit(Unit {
+    let () = parts.next()?;
+    parts.end()?;
+    Ok(Value::Unit(Unit {
         mark,
         kind: UnitKind::Register,
     }))
 }
 
-pub fn register_type(parts: Parts) -> Option<Value>
-    ensures { (mark : Mark) (tokens : List Token) → Makes production.UnsignedInt mark tokens parts.values result }
+pub fn register_type(parts: Parts) -> Result<Value, MakeFault>
+    ensures words { (mark : Mark) (tokens : List Token) → Makes production.UnsignedInt mark tokens parts.values result }
+    ensures name { (mark : Mark) (tokens : List Token) → Makes production.RegisterUint32 mark tokens parts.values result }
 {
-    parts.only(Value::RegisterType)
+    parts.end()?;
+    Ok(Value::RegisterType)
 }
 
-pub fn object_rest(mut parts: Parts) -> Option<Value>
+pub fn object_rest(mut parts: Parts) -> Result<Value, MakeFault>
     ensures { (mark : Mark) (tokens : List Token) → Makes production.ObjectRest mark tokens parts.values result }
 {
-    let Some(lengths) = parts.exprs() else {
-        return None;
-    };
-    let Some(location) = parts.optional_expr() else {
-        drop(lengths);
-        return None;
-    };
-    let Some(init) = parts.optional_init() else {
-        drop((lengths, location));
-        return None;
-    };
-    let Some(others) = parts.init_declarators() else {
-        drop((lengths, location, init));
-        return None;
-    };
-    parts.only(Value::ExternalRest(ExternalRest::Object(ObjectRest {
+    let lengths = parts.next()?;
+    let location = parts.next()?;
+    let init = parts.next()?;
+    let others = parts.next()?;
+    parts.end()?;
+    Ok(Value::ExternalRest(ExternalRest::Object(ObjectRest {
         lengths,
         location,
         init,
@@ -85,32 +69,28 @@ pub fn object_rest(mut parts: Parts) -> Option<Value>
     })))
 }
 
-pub fn function_rest(mut parts: Parts) -> Option<Value>
+pub fn function_rest(mut parts: Parts) -> Result<Value, MakeFault>
     ensures { (mark : Mark) (tokens : List Token) → Makes production.FunctionRest mark tokens parts.values result }
 {
-    let Some(parameters) = parts.parameters() else {
-        return None;
-    };
-    let Some(end) = parts.function_end() else {
-        drop(parameters);
-        return None;
-    };
-    parts.only(Value::ExternalRest(ExternalRest::Function(parameters, end)))
+    let parameters = parts.next()?;
+    let end = parts.next()?;
+    parts.end()?;
+    Ok(Value::ExternalRest(ExternalRest::Function(parameters, end)))
 }
 
-pub fn prototype_end(parts: Parts) -> Option<Value>
+pub fn prototype_end(parts: Parts) -> Result<Value, MakeFault>
     ensures { (mark : Mark) (tokens : List Token) → Makes production.PrototypeEnd mark tokens parts.values result }
 {
-    parts.only(Value::FunctionEnd(None))
+    parts.end()?;
+    Ok(Value::FunctionEnd(None))
 }
 
-pub fn function_body(mut parts: Parts) -> Option<Value>
+pub fn function_body(mut parts: Parts) -> Result<Value, MakeFault>
     ensures { (mark : Mark) (tokens : List Token) → Makes production.FunctionBody mark tokens parts.values result }
 {
-    let Some(items) = parts.items() else {
-        return None;
-    };
-    parts.only(Value::FunctionEnd(Some(items)))
+    let items = parts.next()?;
+    parts.end()?;
+    Ok(Value::FunctionEnd(Some(items)))
 }
 
 /// What a name is declared as, by what follows it.
@@ -162,24 +142,14 @@ fn external_kind(
     }
 }
 
-pub fn external(alloc: Global, mark: Mark, mut parts: Parts) -> Result<Option<Value>, AllocError>
-    ensures { (tokens : List Token) → IfOk result (Makes production.External mark tokens parts.values) }
+pub fn external(alloc: Global, mark: Mark, mut parts: Parts) -> Result<Value, MakeFault>
+    ensures { (tokens : List Token) → Makes production.External mark tokens parts.values result }
 {
-    let Some(ctype) = parts.ctype() else {
-        return Ok(None);
-    };
-    let Some(pointers) = parts.pointers() else {
-        drop(ctype);
-        return Ok(None);
-    };
-    let Some(name) = parts.text() else {
-        drop((ctype, pointers));
-        return Ok(None);
-    };
-    let Some(rest) = parts.external_rest() else {
-        drop((ctype, pointers, name));
-        return Ok(None);
-    };
+    let ctype = parts.next()?;
+    let pointers = parts.next()?;
+    let name = parts.next()?;
+    let rest = parts.next()?;
+    parts.end()?;
     let kind = external_kind(alloc, ctype, pointers, name, rest)?;
-    Ok(parts.only(Value::Unit(Unit { mark, kind })))
+    Ok(Value::Unit(Unit { mark, kind }))
 }

@@ -1,7 +1,7 @@
 //! From the productions of a source to its units.
-ghost use Rattle.std.specs.Prelude.{◌≡◌, ◌+◌, ◌<◌, ◌≤◌, ◌^◌, length, map, reverse, take, drop, IfOk, IfSome, All};
+ghost use Rattle.std.specs.Prelude.{◌≡◌, ◌+◌, ◌<◌, ◌≤◌, ◌^◌, length, reverse, take, drop, IfOk};
 ghost use Rattle.std.specs.Option.{option_map};
-ghost use Rattle.std.specs.Prelude.{ℕ, Some};
+ghost use Rattle.std.specs.Prelude.{Some};
 ghost use Rattle.cgrammar.specs.Text.{Written, IsText};
 ghost use Rattle.creader.specs.Entries.{entries as entries_at};
 ghost use Rattle.cparts.specs.declared.value.Value.{Value};
@@ -10,7 +10,7 @@ ghost use Rattle.cparse.specs.Tree.{value as value_of};
 ghost use Rattle.cparts.specs.Value.{bare_value};
 
 use caction::make;
-use cparts::Value;
+use cparts::{MakeFault, Value};
 use creader::Entry;
 use csyn::Token;
 use std::alloc::{AllocError, Global};
@@ -42,7 +42,7 @@ pub struct Builder {
 }
 
 impl Builder {
-    ghost use Rattle.std.specs.Prelude.{◌≡◌, ◌+◌, ◌<◌, ◌≤◌, ◌^◌, length, map, reverse, take, drop, IfOk};
+    ghost use Rattle.std.specs.Prelude.{◌≡◌, ◌+◌, ◌<◌, ◌≤◌, ◌^◌, length, reverse, take, drop, IfOk};
     ghost use Rattle.std.specs.Option.{option_map};
     ghost use Rattle.cparse.specs.Builder as specs;
 
@@ -56,8 +56,10 @@ impl Builder {
     {
         let parts = take_parts(alloc, &mut self.values, entry.production.children())?;
         let own = &tokens[entry.first..entry.end];
-        let Some(value) = make(alloc, entry.production, self.nodes, own, parts)? else {
-            return Ok(false);
+        let value = match make(alloc, entry.production, self.nodes, own, parts) {
+            Ok(value) => value,
+            Err(MakeFault::Parts) => return Ok(false),
+            Err(MakeFault::Memory) => return Err(AllocError),
         };
         self.values.push_front(value)?;
         if entry.production.is_node() {

@@ -1,8 +1,12 @@
 //! What the productions of a C source are made into, and a production's parts, taken in order.
 #![tactic(auto)]
 
+mod fault;
+mod part;
 mod parts;
 mod value;
 
+pub use fault::MakeFault;
+pub use part::Part;
 pub use parts::Parts;
 pub use value::{ExternalRest, ObjectRest, Value};

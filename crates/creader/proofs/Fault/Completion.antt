@@ -1,6 +1,8 @@
 -- Symbols that can be completed are done with their completion, and what each rule keeps.
-use Rattle.std.proofs.Common.{◌≡◌, Bool, true, false, ◌&&◌, ◌||◌, not, List, [], ◌∷◌, ◌++◌, Some, refl, subst, ap, append_assoc}
+use Rattle.std.proofs.Common.{◌≡◌, Bool, true, false, ◌||◌, not, List, [], ◌∷◌, ◌++◌, Some, refl, subst, ap, append_assoc}
 use Rattle.std.proofs.lemmas.List.{map-append}
+use Rattle.std.proofs.lemmas.Bool.{and_from}
+use Rattle.std.specs.Cmp.{first_so, second_so}
 use Rattle.csyn.specs.declared.token.Token.{Token}
 use Rattle.cgrammar.specs.declared.kind.Kind.{Kind}
 use Rattle.cgrammar.specs.declared.kind.Kind.TheVariants as kind
@@ -11,17 +13,12 @@ use Rattle.creader.specs.declared.part.Symbol.TheVariants as symbol
 use Rattle.cgrammar.specs.Kind.{kind_of}
 use Rattle.creader.specs.Rules.{Rule, rules, any_accepts, choose}
 use Rattle.creader.proofs.Complete.Reading.{allows}
-use Rattle.creader.proofs.Fault.Kinds.{and_left, and_right, every, every_kind_at}
+use Rattle.creader.proofs.Fault.Kinds.{every, every_kind_at}
 use Rattle.creader.proofs.Fault.Samples.{sample, samples, kind-sample}
 use Rattle.creader.proofs.Fault.Done.{Done, done_nothing, done_reduce, done_take, done_both}
 use Rattle.creader.proofs.Fault.Goes.{goes_on_tokens}
 use Rattle.creader.proofs.Fault.Table.{short, ends_before, pick}
 use Rattle.creader.proofs.Fault.Checks.{completion, first, completes, spares_end, pick_accepted, short_test, short_is_read, rules_test, rules_complete, leaves_token, end_is_left}
-
--- two that are true are true together
-pub and_both : (a b : Bool) → a ≡ true → b ≡ true → (a && b) ≡ true
-and_both true b h k = k
-and_both false b h k = h
 
 -- of an implication that is computed
 implied : (a b : Bool) → (not a || b) ≡ true → a ≡ true → b ≡ true
@@ -51,8 +48,8 @@ completed (symbol.Take t ∷ symbols) token tokens h =
     (completed symbols token tokens h)
 completed (symbol.Read p ∷ symbols) token tokens h =
     rw map-append (done_both (symbol.Read p ∷ []) symbols (samples (short p)) (samples (completion symbols)) (token ∷ tokens)
-    (before_completion p (completion symbols) token tokens (and_left _ _ h))
-    (completed symbols token tokens (and_right _ (completes symbols (kind_of token)) h)))
+    (before_completion p (completion symbols) token tokens (first_so _ _ h))
+    (completed symbols token tokens (second_so _ (completes symbols (kind_of token)) h)))
 
 -- the first kind of two lists and what follows them
 first-append : (one other : List Kind) (following : Kind) → first (one ++ other) following ≡ first one (first other following)
@@ -75,14 +72,14 @@ completes-append [] other following h k = k
 completes-append (symbol.Take t ∷ one) other following h k = completes-append one other following h k
 completes-append (symbol.Reduce p ∷ one) other following h k = completes-append one other following h k
 completes-append (symbol.Read p ∷ one) other following h k =
-    and_both _ _ (rw (completion-append one other, first-append) (and_left _ _ h)) (completes-append one other following (and_right _ _ h) k)
+    and_from _ _ (rw (completion-append one other, first-append) (first_so _ _ h)) (completes-append one other following (second_so _ _ h) k)
 
 -- symbols that leave the end token alone, behind one another
 pub spares_end-append : (one other : List Symbol) → spares_end one ≡ true → spares_end other ≡ true → spares_end (one ++ other) ≡ true
 unfolding spares_end
 spares_end-append [] other h k = k
 spares_end-append (symbol.Take t ∷ one) other h k =
-    and_both _ _ (and_left _ _ h) (spares_end-append one other (and_right _ _ h) k)
+    and_from _ _ (first_so _ _ h) (spares_end-append one other (second_so _ _ h) k)
 spares_end-append (symbol.Reduce p ∷ one) other h k = spares_end-append one other h k
 spares_end-append (symbol.Read p ∷ one) other h k = spares_end-append one other h k
 
@@ -90,11 +87,11 @@ spares_end-append (symbol.Read p ∷ one) other h k = spares_end-append one othe
 pub every_chosen : (q : Rule → Bool) (rules : List Rule) (kind : Kind) (rule : Rule) → every q rules ≡ true → choose rules kind ≡ Some rule → q rule ≡ true
 unfolding choose
 every_chosen q [] kind rule h e = cc
-every_chosen q (r ∷ rs) kind rule h e = go (any_accepts r.on kind) refl (λ later. every_chosen q rs kind rule (and_right (q r) _ h) later)
+every_chosen q (r ∷ rs) kind rule h e = go (any_accepts r.on kind) refl (λ later. every_chosen q rs kind rule (second_so (q r) _ h) later)
   where
     go : (answer : Bool) → any_accepts r.on kind ≡ answer → (choose rs kind ≡ Some rule → q rule ≡ true) → q rule ≡ true
     go true is others = let found : Some r ≡ Some rule = rw (is, choose) at e in let same : r ≡ rule = cc in
-        subst (λ x. q x ≡ true) same (and_left _ _ h)
+        subst (λ x. q x ≡ true) same (first_so _ _ h)
     go false is others = others (rw (is, choose) at e)
 
 -- what a rule puts in the place of a part can be completed before what may follow the part
@@ -106,8 +103,8 @@ rule_completes p kind following rule chosen h =
 
 -- and leaves the end token alone
 pub rule_spares_end : (p : Part) (kind : Kind) (rule : Rule) → choose (rules p) kind ≡ Some rule → spares_end rule.symbols ≡ true
-rule_spares_end p kind rule chosen = every_chosen (λ r. spares_end r.symbols) (rules p) kind rule (and_right _ _ (end_is_left p)) chosen
+rule_spares_end p kind rule chosen = every_chosen (λ r. spares_end r.symbols) (rules p) kind rule (second_so _ _ (end_is_left p)) chosen
 
 -- no rule takes the end token
 pub end_stays : (p : Part) (rule : Rule) → choose (rules p) kind.End ≡ Some rule → rule.move ≡ move.Take → ⊥
-end_stays p rule chosen takes = let h = rw (chosen, takes) at (and_left (leaves_token (choose (rules p) kind.End)) _ (end_is_left p)) in cc
+end_stays p rule chosen takes = let h = rw (chosen, takes) at (first_so (leaves_token (choose (rules p) kind.End)) _ (end_is_left p)) in cc

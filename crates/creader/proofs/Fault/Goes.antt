@@ -1,6 +1,7 @@
 -- The machine on kinds of tokens alone, which can be computed.
 use Rattle.std.proofs.Common.{◌≡◌, ℕ, suc, Bool, true, false, ◌&&◌, List, [], ◌∷◌, ◌++◌, Option, Some, None, refl}
 use Rattle.std.specs.Prelude.{zero}
+use Rattle.std.specs.Cmp.{first_so, second_so}
 use Rattle.csyn.specs.declared.token.Token.{Token}
 use Rattle.cgrammar.specs.declared.kind.Kind.{Kind}
 use Rattle.creader.specs.declared.part.Part.{Part}
@@ -11,7 +12,6 @@ use Rattle.creader.specs.declared.part.Symbol.TheVariants as symbol
 use Rattle.cgrammar.specs.Kind.{kind_of}
 use Rattle.cgrammar.specs.Terminal.{accepts}
 use Rattle.creader.specs.Rules.{Rule, rules, choose}
-use Rattle.creader.proofs.Fault.Kinds.{and_left, and_right}
 use Rattle.creader.proofs.Fault.Samples.{sample, samples, kind-sample}
 use Rattle.creader.proofs.Fault.Done.{Done, done_nothing, done_reduce, done_take, done_rule_take, done_rule_stay}
 
@@ -87,8 +87,8 @@ goes_on_tokens (suc n) (symbol.Reduce p ∷ symbols) kinds token tokens h =
     done_reduce p symbols (samples kinds) (token ∷ tokens) (goes_on_tokens n symbols kinds token tokens h)
 goes_on_tokens (suc n) (symbol.Take t ∷ symbols) [] token tokens h = cc
 goes_on_tokens (suc n) (symbol.Take t ∷ symbols) (kind ∷ kinds) token tokens h =
-    done_take t symbols (sample kind) (samples kinds) (token ∷ tokens) (rw kind-sample (and_left _ _ h))
-    (goes_on_tokens n symbols kinds token tokens (and_right (accepts t kind) _ h))
+    done_take t symbols (sample kind) (samples kinds) (token ∷ tokens) (rw kind-sample (first_so _ _ h))
+    (goes_on_tokens n symbols kinds token tokens (second_so (accepts t kind) _ h))
 goes_on_tokens (suc n) (symbol.Read p ∷ symbols) [] token tokens h =
     read_last n p symbols token tokens (λ symbols' kinds'. goes_on_tokens n symbols' kinds' token tokens) h
 goes_on_tokens (suc n) (symbol.Read p ∷ symbols) (kind ∷ kinds) token tokens h =

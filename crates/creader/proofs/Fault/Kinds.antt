@@ -1,6 +1,7 @@
 -- What holds of all kinds of tokens by computing holds of each.
-use Rattle.std.proofs.Common.{◌≡◌, ℕ, suc, Bool, true, false, ◌&&◌, List, [], ◌∷◌, get_or, refl, subst}
+use Rattle.std.proofs.Common.{◌≡◌, ℕ, suc, Bool, true, ◌&&◌, List, [], ◌∷◌, get_or, refl, subst}
 use Rattle.std.specs.Prelude.{zero}
+use Rattle.std.specs.Cmp.{first_so, second_so}
 use Rattle.csyn.specs.declared.keyword.Keyword.{Keyword}
 use Rattle.csyn.specs.declared.keyword.Keyword.TheVariants as keyword
 use Rattle.csyn.specs.declared.punctuator.Punctuator.{Punctuator}
@@ -8,16 +9,6 @@ use Rattle.csyn.specs.declared.punctuator.Punctuator.TheVariants as punctuator
 use Rattle.cgrammar.specs.declared.kind.Kind.{Kind}
 use Rattle.cgrammar.specs.declared.kind.Kind.TheVariants as kind
 use Rattle.cgrammar.specs.Terminal.{keyword_number, punctuator_number}
-
--- the first of two that are true together
-pub and_left : (a b : Bool) → (a && b) ≡ true → a ≡ true
-and_left true b h = refl
-and_left false b h = h
-
--- the second of them
-pub and_right : (a b : Bool) → (a && b) ≡ true → b ≡ true
-and_right true b h = h
-and_right false b h = cc
 
 -- it holds of each element, by computing
 abbrev pub every : {A : Type 0} → (A → Bool) → List A → Bool
@@ -27,12 +18,12 @@ every p (x ∷ xs) = p x && every p xs
 -- a place behind the end stands for the default
 every_or : {A : Type 0} (p : A → Bool) (xs : List A) (n : ℕ) (other : A) → every p xs ≡ true → p other ≡ true → p (get_or xs n other) ≡ true
 every_or p [] n other h o = o
-every_or p (x ∷ xs) zero other h o = and_left (p x) (every p xs) h
-every_or p (x ∷ xs) (suc n) other h o = every_or p xs n other (and_right (p x) (every p xs) h) o
+every_or p (x ∷ xs) zero other h o = first_so (p x) (every p xs) h
+every_or p (x ∷ xs) (suc n) other h o = every_or p xs n other (second_so (p x) (every p xs) h) o
 
 -- what holds of each element holds at each place
 pub every_at : {A : Type 0} (p : A → Bool) (x : A) (xs : List A) (n : ℕ) → every p (x ∷ xs) ≡ true → p (get_or (x ∷ xs) n x) ≡ true
-every_at p x xs n h = every_or p (x ∷ xs) n x h (and_left (p x) (every p xs) h)
+every_at p x xs n h = every_or p (x ∷ xs) n x h (first_so (p x) (every p xs) h)
 
 abbrev later_keywords : List Keyword
 later_keywords =
@@ -80,7 +71,7 @@ pub every_kind_at : (p : Kind → Bool) → every_kind p ≡ true → (k : Kind)
 every_kind_at p h = at
   where
     plain : every p (kind.Name ∷ later_kinds) ≡ true
-    plain = and_left _ _ h
+    plain = first_so _ _ h
 
     at : (k : Kind) → p k ≡ true
     at kind.Name = every_at p kind.Name later_kinds 0 plain
@@ -93,6 +84,6 @@ every_kind_at p h = at
     at kind.Uint32 = every_at p kind.Name later_kinds 7 plain
     at kind.End = every_at p kind.Name later_kinds 8 plain
     at (kind.Keyword k) = subst (λ x. p (kind.Keyword x) ≡ true) (keyword_there k)
-        (every_at (λ x. p (kind.Keyword x)) keyword.Attribute later_keywords (keyword_number k) (and_left _ _ (and_right _ _ h)))
+        (every_at (λ x. p (kind.Keyword x)) keyword.Attribute later_keywords (keyword_number k) (first_so _ _ (second_so _ _ h)))
     at (kind.Punctuator m) = subst (λ x. p (kind.Punctuator x) ≡ true) (punctuator_there m)
-        (every_at (λ x. p (kind.Punctuator x)) punctuator.ShiftLeftAssign later_punctuators (punctuator_number m) (and_right _ _ (and_right _ _ h)))
+        (every_at (λ x. p (kind.Punctuator x)) punctuator.ShiftLeftAssign later_punctuators (punctuator_number m) (second_so _ _ (second_so _ _ h)))

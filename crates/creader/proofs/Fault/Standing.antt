@@ -1,6 +1,7 @@
 -- What the symbols are on the way from the start: they can be completed, and the end token is taken last.
 use Rattle.std.proofs.Common.{◌≡◌, ◌≢◌, ◌⊎◌, inl, inr, Bool, true, not, ◌&&◌, List, [], ◌∷◌, ◌++◌, All, Some, refl, sym, subst, append_assoc}
 use Rattle.std.proofs.lemmas.List.Elements.{All-head, All-tail}
+use Rattle.std.specs.Cmp.{first_so, second_so}
 use Rattle.csyn.specs.declared.token.Token.{Token}
 use Rattle.cgrammar.specs.declared.kind.Kind.{Kind}
 use Rattle.cgrammar.specs.declared.kind.Kind.TheVariants as kind
@@ -19,7 +20,6 @@ use Rattle.cgrammar.specs.Text.{Written}
 use Rattle.creader.specs.Machine.{State, at, moved, reduce, step, Reaches, here, next}
 use Rattle.creader.specs.Source.{EndsOnce}
 use Rattle.creader.proofs.Fault.Steps.{taken, followed}
-use Rattle.creader.proofs.Fault.Kinds.{and_left, and_right}
 use Rattle.creader.proofs.Complete.Reading.{allows}
 use Rattle.creader.proofs.Fault.Table.{ends_before}
 use Rattle.creader.proofs.Fault.Checks.{completion, first, completes, spares_end}
@@ -82,8 +82,8 @@ follow_rule p rule m upper values token tokens chosen is can spares once = go m 
 
     can_end : completes (rule.symbols ++ upper) kind.End ≡ true
     can_end = completes-append rule.symbols upper kind.End
-        (rule_completes p (kind_of token) (first (completion upper) kind.End) rule chosen (and_left left (completes upper kind.End) can))
-        (and_right left (completes upper kind.End) can)
+        (rule_completes p (kind_of token) (first (completion upper) kind.End) rule chosen (first_so left (completes upper kind.End) can))
+        (second_so left (completes upper kind.End) can)
 
     spares' : spares_end (rule.symbols ++ upper) ≡ true
     spares' = spares_end-append rule.symbols upper (rule_spares_end p (kind_of token) rule chosen) spares
@@ -114,7 +114,7 @@ step_above (symbol.Reduce p ∷ upper) values (token ∷ tokens) b e can spares 
 step_above (symbol.Take t ∷ upper) values (token ∷ tokens) b e can spares once =
     let found = taken t (upper ++ bottom) values token tokens b e in
     subst (λ x. Standing x.symbols x.tokens) found.1
-    (above (record { upper = upper; is = refl; can_end = can; spares = and_right _ _ spares; ahead = not_end t _ token tokens spares found.0 once }))
+    (above (record { upper = upper; is = refl; can_end = can; spares = second_so _ _ spares; ahead = not_end t _ token tokens spares found.0 once }))
 step_above (symbol.Read p ∷ upper) values (token ∷ tokens) b e can spares once =
     let found = followed p (upper ++ bottom) values token tokens b e in
     subst (λ x. Standing x.symbols x.tokens) found.is

@@ -1,6 +1,7 @@
 -- Steps that take no token come to an end: the symbols up to the first that surely takes one weigh less each time.
-use Rattle.std.specs.Prelude.{◌≡◌, ℕ, ◌+◌, ◌<◌, Bool, true, false, not, ◌||◌, ◌&&◌, nat_lt, if◌then◌else◌, List, [], ◌∷◌, ◌++◌, Option, Some, refl, cond, ◌⊎◌}
-use Rattle.std.proofs.Common.{arith, sym, ap, subst, inl, inr, ltb-true, zero-add}
+use Rattle.std.specs.Prelude.{◌≡◌, ℕ, ◌+◌, ◌<◌, Bool, true, false, not, ◌||◌, ◌&&◌, nat_lt, if◌then◌else◌, List, [], ◌∷◌, ◌++◌, Some, refl, cond}
+use Rattle.std.proofs.Common.{arith, sym, ap, subst, ltb-true, zero-add}
+use Rattle.std.specs.Cmp.{first_so, second_so}
 use Rattle.cgrammar.specs.declared.kind.Kind.{Kind}
 use Rattle.creader.specs.declared.part.Part.{Part}
 use Rattle.creader.specs.declared.part.Part.TheVariants as part
@@ -12,7 +13,7 @@ use Rattle.cgrammar.specs.declared.production.Level.TheVariants as level
 use Rattle.cgrammar.specs.declared.production.Words.TheVariants as words
 use Rattle.creader.specs.Rules.{Rule, rules, chain_rules, chain_tail_rules, words_rules, choose}
 use Rattle.creader.proofs.Fault.Completion.{every_chosen}
-use Rattle.creader.proofs.Fault.Kinds.{every, and_left, and_right}
+use Rattle.creader.proofs.Fault.Kinds.{every}
 
 -- how many steps a part may take before a token is taken, at most
 unfoldable pub weight : Part → ℕ
@@ -350,6 +351,6 @@ lighter part kind rule symbols chosen stay =
     let light = every_chosen (is_light part) (rules part) kind rule (all_light part) chosen in
     let no_take : is_take rule.move ≡ false = ap is_take stay in
     let parts = either (is_take rule.move) (nat_lt (weigh rule.symbols) (weight part) && (not (is_sure part) || stops rule.symbols)) light no_take in
-    let less : weigh rule.symbols < weight part = ltb-true (weigh rule.symbols) (weight part) (and_left _ _ parts) in
+    let less : weigh rule.symbols < weight part = ltb-true (weigh rule.symbols) (weight part) (first_so _ _ parts) in
     subst (λ n. n < cond (is_sure part) (weight part) (weight part + weigh symbols)) (sym (weigh_append rule.symbols symbols))
-    (lighter_by (is_sure part) (stops rule.symbols) (weigh rule.symbols) (weight part) (weigh symbols) less (and_right _ _ parts))
+    (lighter_by (is_sure part) (stops rule.symbols) (weigh rule.symbols) (weight part) (weigh symbols) less (second_so _ _ parts))
