@@ -6,6 +6,8 @@ ghost use Rattle.csyn.specs.declared.mark.Mark.{Mark};
 ghost use Rattle.csyn.specs.declared.token.Token.{Token};
 ghost use Rattle.cgrammar.specs.declared.production.Production.TheVariants as production;
 ghost use Rattle.caction.specs.Make.{Makes};
+ghost use Rattle.std.specs.Prelude.{◌≡◌, IfErr};
+ghost use Rattle.cparts.specs.declared.fault.MakeFault.TheVariants as fault;
 
 use cparts::{MakeFault, Parts, Value};
 use csyn::{
@@ -15,7 +17,8 @@ use csyn::{
 use std::alloc::Global;
 
 pub fn declarator(mut parts: Parts) -> Result<Value, MakeFault>
-    ensures { (mark : Mark) (tokens : List Token) → Makes production.Declarator mark tokens parts.values result }
+    ensures made { (mark : Mark) (tokens : List Token) → Makes production.Declarator mark tokens parts.values result }
+    ensures sure { IfErr result (λ e. e ≡ fault.Parts) }
 {
     let pointers = parts.next()?;
     let name = parts.next()?;
@@ -42,7 +45,8 @@ pub fn struct_member(alloc: Global, mut parts: Parts) -> Result<Value, MakeFault
 }
 
 pub fn no_initial(parts: Parts) -> Result<Value, MakeFault>
-    ensures { (mark : Mark) (tokens : List Token) → Makes production.NoInitial mark tokens parts.values result }
+    ensures made { (mark : Mark) (tokens : List Token) → Makes production.NoInitial mark tokens parts.values result }
+    ensures sure { IfErr result (λ e. e ≡ fault.Parts) }
 {
     parts.end()?;
     Ok(Value::OptionalInit(None))
@@ -80,7 +84,8 @@ pub fn braced(alloc: Global, mark: Mark, mut parts: Parts) -> Result<Value, Make
 }
 
 pub fn init_declarator(mut parts: Parts) -> Result<Value, MakeFault>
-    ensures { (mark : Mark) (tokens : List Token) → Makes production.InitDeclarator mark tokens parts.values result }
+    ensures made { (mark : Mark) (tokens : List Token) → Makes production.InitDeclarator mark tokens parts.values result }
+    ensures sure { IfErr result (λ e. e ≡ fault.Parts) }
 {
     let declarator = parts.next()?;
     let location = parts.next()?;
@@ -122,21 +127,24 @@ pub fn some_parameters(alloc: Global, mut parts: Parts) -> Result<Value, MakeFau
 }
 
 pub fn empty_parameters(parts: Parts) -> Result<Value, MakeFault>
-    ensures { (mark : Mark) (tokens : List Token) → Makes production.NoParameters mark tokens parts.values result }
+    ensures made { (mark : Mark) (tokens : List Token) → Makes production.NoParameters mark tokens parts.values result }
+    ensures sure { IfErr result (λ e. e ≡ fault.Parts) }
 {
     parts.end()?;
     Ok(Value::Parameters(Parameters::Empty))
 }
 
 pub fn void_parameters(parts: Parts) -> Result<Value, MakeFault>
-    ensures { (mark : Mark) (tokens : List Token) → Makes production.VoidParameters mark tokens parts.values result }
+    ensures made { (mark : Mark) (tokens : List Token) → Makes production.VoidParameters mark tokens parts.values result }
+    ensures sure { IfErr result (λ e. e ≡ fault.Parts) }
 {
     parts.end()?;
     Ok(Value::Parameters(Parameters::Void))
 }
 
 pub fn parameter(mut parts: Parts) -> Result<Value, MakeFault>
-    ensures { (mark : Mark) (tokens : List Token) → Makes production.Parameter mark tokens parts.values result }
+    ensures made { (mark : Mark) (tokens : List Token) → Makes production.Parameter mark tokens parts.values result }
+    ensures sure { IfErr result (λ e. e ≡ fault.Parts) }
 {
     let ctype = parts.next()?;
     let pointers = parts.next()?;
@@ -155,7 +163,8 @@ pub fn parameter(mut parts: Parts) -> Result<Value, MakeFault>
 }
 
 pub fn array_parameter(mut parts: Parts) -> Result<Value, MakeFault>
-    ensures { (mark : Mark) (tokens : List Token) → Makes production.ArrayParameter mark tokens parts.values result }
+    ensures made { (mark : Mark) (tokens : List Token) → Makes production.ArrayParameter mark tokens parts.values result }
+    ensures sure { IfErr result (λ e. e ≡ fault.Parts) }
 {
     let ctype = parts.next()?;
     let pointers = parts.next()?;

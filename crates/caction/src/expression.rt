@@ -7,6 +7,8 @@ ghost use Rattle.csyn.specs.declared.token.Token.{Token};
 ghost use Rattle.cgrammar.specs.declared.production.Production.TheVariants as production;
 ghost use Rattle.caction.specs.Make.{Makes};
 ghost use Rattle.caction.specs.Make as specs;
+ghost use Rattle.std.specs.Prelude.{◌≡◌, IfErr};
+ghost use Rattle.cparts.specs.declared.fault.MakeFault.TheVariants as fault;
 
 use crate::token::prefix_operator;
 use cparts::{MakeFault, Parts, Value};
@@ -14,7 +16,8 @@ use csyn::{BinaryOperator, Expr, ExprKind, Mark, Member, PostfixOperator, Prefix
 use std::alloc::Global;
 
 pub fn name(mark: Mark, mut parts: Parts) -> Result<Value, MakeFault>
-    ensures { (tokens : List Token) → Makes production.Name mark tokens parts.values result }
+    ensures made { (tokens : List Token) → Makes production.Name mark tokens parts.values result }
+    ensures sure { IfErr result (λ e. e ≡ fault.Parts) }
 {
     let name = parts.next()?;
     parts.end()?;
@@ -25,7 +28,8 @@ pub fn name(mark: Mark, mut parts: Parts) -> Result<Value, MakeFault>
 }
 
 pub fn parenthesised(mut parts: Parts) -> Result<Value, MakeFault>
-    ensures { (mark : Mark) (tokens : List Token) → Makes production.Parenthesised mark tokens parts.values result }
+    ensures made { (mark : Mark) (tokens : List Token) → Makes production.Parenthesised mark tokens parts.values result }
+    ensures sure { IfErr result (λ e. e ≡ fault.Parts) }
 {
     let inner = parts.next()?;
     parts.end()?;
@@ -45,7 +49,8 @@ pub fn index(alloc: Global, mark: Mark, mut parts: Parts) -> Result<Value, MakeF
 }
 
 pub fn call_function(mark: Mark, mut parts: Parts) -> Result<Value, MakeFault>
-    ensures { (tokens : List Token) → Makes production.CallFunction mark tokens parts.values result }
+    ensures made { (tokens : List Token) → Makes production.CallFunction mark tokens parts.values result }
+    ensures sure { IfErr result (λ e. e ≡ fault.Parts) }
 {
     let name = parts.next()?;
     let arguments = parts.next()?;
@@ -148,7 +153,8 @@ pub fn sizeof_expression(alloc: Global, mark: Mark, mut parts: Parts) -> Result<
 }
 
 pub fn sizeof_type(mark: Mark, mut parts: Parts) -> Result<Value, MakeFault>
-    ensures { (tokens : List Token) → Makes production.SizeofType mark tokens parts.values result }
+    ensures made { (tokens : List Token) → Makes production.SizeofType mark tokens parts.values result }
+    ensures sure { IfErr result (λ e. e ≡ fault.Parts) }
 {
     let name = parts.next()?;
     parts.end()?;

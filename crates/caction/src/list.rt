@@ -6,6 +6,8 @@ ghost use Rattle.csyn.specs.declared.mark.Mark.{Mark};
 ghost use Rattle.csyn.specs.declared.token.Token.{Token};
 ghost use Rattle.cgrammar.specs.declared.production.Production.TheVariants as production;
 ghost use Rattle.caction.specs.Make.{Makes};
+ghost use Rattle.std.specs.Prelude.{◌≡◌, IfErr};
+ghost use Rattle.cparts.specs.declared.fault.MakeFault.TheVariants as fault;
 
 use cparts::{MakeFault, Parts, Value};
 use csyn::{
@@ -17,6 +19,7 @@ pub fn no_exprs(parts: Parts) -> Result<Value, MakeFault>
     ensures none { (mark : Mark) (tokens : List Token) → Makes production.NoArguments mark tokens parts.values result }
     ensures end { (mark : Mark) (tokens : List Token) → Makes production.EndArguments mark tokens parts.values result }
     ensures lengths { (mark : Mark) (tokens : List Token) → Makes production.NoLengths mark tokens parts.values result }
+    ensures sure { IfErr result (λ e. e ≡ fault.Parts) }
 {
     parts.end()?;
     Ok(Value::Exprs(Exprs::End))
@@ -36,6 +39,7 @@ pub fn more_exprs(alloc: Global, mut parts: Parts) -> Result<Value, MakeFault>
 pub fn no_expression(parts: Parts) -> Result<Value, MakeFault>
     ensures expression { (mark : Mark) (tokens : List Token) → Makes production.NoExpression mark tokens parts.values result }
     ensures location { (mark : Mark) (tokens : List Token) → Makes production.NoLocation mark tokens parts.values result }
+    ensures sure { IfErr result (λ e. e ≡ fault.Parts) }
 {
     parts.end()?;
     Ok(Value::OptionalExpr(None))
@@ -51,7 +55,8 @@ pub fn some_expression(alloc: Global, mut parts: Parts) -> Result<Value, MakeFau
 }
 
 pub fn no_declarators(parts: Parts) -> Result<Value, MakeFault>
-    ensures { (mark : Mark) (tokens : List Token) → Makes production.EndDeclarators mark tokens parts.values result }
+    ensures made { (mark : Mark) (tokens : List Token) → Makes production.EndDeclarators mark tokens parts.values result }
+    ensures sure { IfErr result (λ e. e ≡ fault.Parts) }
 {
     parts.end()?;
     Ok(Value::Declarators(Declarators::End))
@@ -67,7 +72,8 @@ pub fn more_declarators(alloc: Global, mut parts: Parts) -> Result<Value, MakeFa
 }
 
 pub fn no_members(parts: Parts) -> Result<Value, MakeFault>
-    ensures { (mark : Mark) (tokens : List Token) → Makes production.EndMembers mark tokens parts.values result }
+    ensures made { (mark : Mark) (tokens : List Token) → Makes production.EndMembers mark tokens parts.values result }
+    ensures sure { IfErr result (λ e. e ≡ fault.Parts) }
 {
     parts.end()?;
     Ok(Value::Members(Members::End))
@@ -85,6 +91,7 @@ pub fn more_members(alloc: Global, mut parts: Parts) -> Result<Value, MakeFault>
 pub fn no_inits(parts: Parts) -> Result<Value, MakeFault>
     ensures end { (mark : Mark) (tokens : List Token) → Makes production.EndInits mark tokens parts.values result }
     ensures comma { (mark : Mark) (tokens : List Token) → Makes production.TrailingComma mark tokens parts.values result }
+    ensures sure { IfErr result (λ e. e ≡ fault.Parts) }
 {
     parts.end()?;
     Ok(Value::Inits(Inits::End))
@@ -100,7 +107,8 @@ pub fn more_inits(alloc: Global, mut parts: Parts) -> Result<Value, MakeFault>
 }
 
 pub fn comma_inits(mut parts: Parts) -> Result<Value, MakeFault>
-    ensures { (mark : Mark) (tokens : List Token) → Makes production.CommaInits mark tokens parts.values result }
+    ensures made { (mark : Mark) (tokens : List Token) → Makes production.CommaInits mark tokens parts.values result }
+    ensures sure { IfErr result (λ e. e ≡ fault.Parts) }
 {
     let inits = parts.next()?;
     parts.end()?;
@@ -108,7 +116,8 @@ pub fn comma_inits(mut parts: Parts) -> Result<Value, MakeFault>
 }
 
 pub fn no_init_declarators(parts: Parts) -> Result<Value, MakeFault>
-    ensures { (mark : Mark) (tokens : List Token) → Makes production.EndInitDeclarators mark tokens parts.values result }
+    ensures made { (mark : Mark) (tokens : List Token) → Makes production.EndInitDeclarators mark tokens parts.values result }
+    ensures sure { IfErr result (λ e. e ≡ fault.Parts) }
 {
     parts.end()?;
     Ok(Value::InitDeclarators(InitDeclarators::End))
@@ -127,7 +136,8 @@ pub fn more_init_declarators(alloc: Global, mut parts: Parts) -> Result<Value, M
 }
 
 pub fn no_items(parts: Parts) -> Result<Value, MakeFault>
-    ensures { (mark : Mark) (tokens : List Token) → Makes production.EndItems mark tokens parts.values result }
+    ensures made { (mark : Mark) (tokens : List Token) → Makes production.EndItems mark tokens parts.values result }
+    ensures sure { IfErr result (λ e. e ≡ fault.Parts) }
 {
     parts.end()?;
     Ok(Value::Items(Items::End))
@@ -152,7 +162,8 @@ pub fn next_statement(alloc: Global, mut parts: Parts) -> Result<Value, MakeFaul
 }
 
 pub fn no_parameters(parts: Parts) -> Result<Value, MakeFault>
-    ensures { (mark : Mark) (tokens : List Token) → Makes production.EndParameters mark tokens parts.values result }
+    ensures made { (mark : Mark) (tokens : List Token) → Makes production.EndParameters mark tokens parts.values result }
+    ensures sure { IfErr result (λ e. e ≡ fault.Parts) }
 {
     parts.end()?;
     Ok(Value::ParameterList(ParameterList::End))
@@ -168,7 +179,8 @@ pub fn more_parameters(alloc: Global, mut parts: Parts) -> Result<Value, MakeFau
 }
 
 pub fn no_units(parts: Parts) -> Result<Value, MakeFault>
-    ensures { (mark : Mark) (tokens : List Token) → Makes production.EndUnits mark tokens parts.values result }
+    ensures made { (mark : Mark) (tokens : List Token) → Makes production.EndUnits mark tokens parts.values result }
+    ensures sure { IfErr result (λ e. e ≡ fault.Parts) }
 {
     parts.end()?;
     Ok(Value::Units(Units::End))
@@ -184,7 +196,8 @@ pub fn more_units(alloc: Global, mut parts: Parts) -> Result<Value, MakeFault>
 }
 
 pub fn source(mut parts: Parts) -> Result<Value, MakeFault>
-    ensures { (mark : Mark) (tokens : List Token) → Makes production.Source mark tokens parts.values result }
+    ensures made { (mark : Mark) (tokens : List Token) → Makes production.Source mark tokens parts.values result }
+    ensures sure { IfErr result (λ e. e ≡ fault.Parts) }
 {
     let units = parts.next()?;
     parts.end()?;

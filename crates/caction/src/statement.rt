@@ -9,13 +9,16 @@ ghost use Rattle.caction.specs.Make.{Makes};
 ghost use Rattle.std.specs.Prelude.{◌≡◌};
 ghost use Rattle.csyn.specs.Bare.{bare_expr, bare_stmt, bare_stmt_kind, option_bare};
 ghost use Rattle.caction.specs.Make.{if_of};
+ghost use Rattle.std.specs.Prelude.{IfErr};
+ghost use Rattle.cparts.specs.declared.fault.MakeFault.TheVariants as fault;
 
 use cparts::{MakeFault, Parts, Value};
 use csyn::{Expr, ForFirst, Mark, Object, Stmt, StmtKind};
 use std::alloc::{AllocError, Global};
 
 pub fn block(mark: Mark, mut parts: Parts) -> Result<Value, MakeFault>
-    ensures { (tokens : List Token) → Makes production.Block mark tokens parts.values result }
+    ensures made { (tokens : List Token) → Makes production.Block mark tokens parts.values result }
+    ensures sure { IfErr result (λ e. e ≡ fault.Parts) }
 {
     let items = parts.next()?;
     parts.end()?;
@@ -26,7 +29,8 @@ pub fn block(mark: Mark, mut parts: Parts) -> Result<Value, MakeFault>
 }
 
 pub fn expression(mark: Mark, mut parts: Parts) -> Result<Value, MakeFault>
-    ensures { (tokens : List Token) → Makes production.ExpressionStatement mark tokens parts.values result }
+    ensures made { (tokens : List Token) → Makes production.ExpressionStatement mark tokens parts.values result }
+    ensures sure { IfErr result (λ e. e ≡ fault.Parts) }
 {
     let expression = parts.next()?;
     parts.end()?;
@@ -37,7 +41,8 @@ pub fn expression(mark: Mark, mut parts: Parts) -> Result<Value, MakeFault>
 }
 
 pub fn no_else(parts: Parts) -> Result<Value, MakeFault>
-    ensures { (mark : Mark) (tokens : List Token) → Makes production.NoElse mark tokens parts.values result }
+    ensures made { (mark : Mark) (tokens : List Token) → Makes production.NoElse mark tokens parts.values result }
+    ensures sure { IfErr result (λ e. e ≡ fault.Parts) }
 {
     parts.end()?;
     Ok(Value::OptionalStmt(None))
@@ -84,7 +89,8 @@ pub fn for_object(alloc: Global, mut parts: Parts) -> Result<Value, MakeFault>
 }
 
 pub fn for_expression(mut parts: Parts) -> Result<Value, MakeFault>
-    ensures { (mark : Mark) (tokens : List Token) → Makes production.ForExpression mark tokens parts.values result }
+    ensures made { (mark : Mark) (tokens : List Token) → Makes production.ForExpression mark tokens parts.values result }
+    ensures sure { IfErr result (λ e. e ≡ fault.Parts) }
 {
     let expression = parts.next()?;
     parts.end()?;
@@ -106,7 +112,8 @@ pub fn for_loop(alloc: Global, mark: Mark, mut parts: Parts) -> Result<Value, Ma
 }
 
 pub fn break_loop(mark: Mark, parts: Parts) -> Result<Value, MakeFault>
-    ensures { (tokens : List Token) → Makes production.Break mark tokens parts.values result }
+    ensures made { (tokens : List Token) → Makes production.Break mark tokens parts.values result }
+    ensures sure { IfErr result (λ e. e ≡ fault.Parts) }
 {
     parts.end()?;
     Ok(Value::Stmt(Stmt {
@@ -116,7 +123,8 @@ pub fn break_loop(mark: Mark, parts: Parts) -> Result<Value, MakeFault>
 }
 
 pub fn continue_loop(mark: Mark, parts: Parts) -> Result<Value, MakeFault>
-    ensures { (tokens : List Token) → Makes production.Continue mark tokens parts.values result }
+    ensures made { (tokens : List Token) → Makes production.Continue mark tokens parts.values result }
+    ensures sure { IfErr result (λ e. e ≡ fault.Parts) }
 {
     parts.end()?;
     Ok(Value::Stmt(Stmt {
@@ -126,7 +134,8 @@ pub fn continue_loop(mark: Mark, parts: Parts) -> Result<Value, MakeFault>
 }
 
 pub fn return_value(mark: Mark, mut parts: Parts) -> Result<Value, MakeFault>
-    ensures { (tokens : List Token) → Makes production.Return mark tokens parts.values result }
+    ensures made { (tokens : List Token) → Makes production.Return mark tokens parts.values result }
+    ensures sure { IfErr result (λ e. e ≡ fault.Parts) }
 {
     let expression = parts.next()?;
     parts.end()?;
@@ -137,7 +146,8 @@ pub fn return_value(mark: Mark, mut parts: Parts) -> Result<Value, MakeFault>
 }
 
 pub fn region(mark: Mark, mut parts: Parts) -> Result<Value, MakeFault>
-    ensures { (tokens : List Token) → Makes production.Region mark tokens parts.values result }
+    ensures made { (tokens : List Token) → Makes production.Region mark tokens parts.values result }
+    ensures sure { IfErr result (λ e. e ≡ fault.Parts) }
 {
     let name = parts.next()?;
     let items = parts.next()?;

@@ -10,6 +10,8 @@ ghost use Rattle.cgrammar.specs.declared.production.Word.{Word};
 ghost use Rattle.cparts.specs.declared.value.Value.TheVariants as value;
 ghost use Rattle.caction.specs.Make.{IsMade, Makes};
 ghost use Rattle.caction.specs.Make as specs;
+ghost use Rattle.std.specs.Prelude.{IfErr};
+ghost use Rattle.cparts.specs.declared.fault.MakeFault.TheVariants as fault;
 
 use cparts::{MakeFault, Parts, Value};
 use csyn::{
@@ -118,7 +120,8 @@ pub fn prefix_operator(tokens: &[Token]) -> Option<PrefixOperator>
 }
 
 pub fn standard_base(tokens: &[Token], parts: Parts) -> Result<Value, MakeFault>
-    ensures { (mark : Mark) → Makes production.StandardBase mark tokens.now parts.values result }
+    ensures made { (mark : Mark) → Makes production.StandardBase mark tokens.now parts.values result }
+    ensures sure { IfErr result (λ e. e ≡ fault.Parts) }
 {
     parts.end()?;
     match first(tokens) {
@@ -128,7 +131,8 @@ pub fn standard_base(tokens: &[Token], parts: Parts) -> Result<Value, MakeFault>
 }
 
 pub fn specified(tokens: &[Token], mut parts: Parts) -> Result<Value, MakeFault>
-    ensures { (mark : Mark) → Makes production.Specified mark tokens.now parts.values result }
+    ensures made { (mark : Mark) → Makes production.Specified mark tokens.now parts.values result }
+    ensures sure { IfErr result (λ e. e ≡ fault.Parts) }
 {
     let mut ctype: CType = parts.next()?;
     parts.end()?;
@@ -143,7 +147,8 @@ pub fn specified(tokens: &[Token], mut parts: Parts) -> Result<Value, MakeFault>
 }
 
 pub fn qualified(tokens: &[Token], mut parts: Parts) -> Result<Value, MakeFault>
-    ensures { (mark : Mark) → Makes production.Qualified mark tokens.now parts.values result }
+    ensures made { (mark : Mark) → Makes production.Qualified mark tokens.now parts.values result }
+    ensures sure { IfErr result (λ e. e ≡ fault.Parts) }
 {
     let qualifiers: Pointer = parts.next()?;
     parts.end()?;
@@ -162,7 +167,8 @@ pub fn qualified(tokens: &[Token], mut parts: Parts) -> Result<Value, MakeFault>
 
 /// One more word of an integer type. The word `int` adds nothing.
 fn worded(words: IntegerWords, kind: Option<&TokenKind>) -> Result<Value, MakeFault>
-    ensures { IsMade (option_map (λ w. value.Words w) (specs.worded words (option_copied kind.entry))) result }
+    ensures made { IsMade (option_map (λ w. value.Words w) (specs.worded words (option_copied kind.entry))) result }
+    ensures sure { IfErr result (λ e. e ≡ fault.Parts) }
 {
     let IntegerWords { sign, length } = words;
     let (sign, length) = match kind {
@@ -178,7 +184,8 @@ fn worded(words: IntegerWords, kind: Option<&TokenKind>) -> Result<Value, MakeFa
 }
 
 pub fn first_word(tokens: &[Token], parts: Parts) -> Result<Value, MakeFault>
-    ensures { (word : Word) (mark : Mark) → Makes (production.FirstWord word) mark tokens.now parts.values result }
+    ensures made { (word : Word) (mark : Mark) → Makes (production.FirstWord word) mark tokens.now parts.values result }
+    ensures sure { IfErr result (λ e. e ≡ fault.Parts) }
 {
     let none = IntegerWords {
         sign: None,
@@ -189,7 +196,8 @@ pub fn first_word(tokens: &[Token], parts: Parts) -> Result<Value, MakeFault>
 }
 
 pub fn next_word(tokens: &[Token], mut parts: Parts) -> Result<Value, MakeFault>
-    ensures { (all : Words) (word : Word) (mark : Mark) → Makes (production.NextWord all word) mark tokens.now parts.values result }
+    ensures made { (all : Words) (word : Word) (mark : Mark) → Makes (production.NextWord all word) mark tokens.now parts.values result }
+    ensures sure { IfErr result (λ e. e ≡ fault.Parts) }
 {
     let words = parts.next()?;
     parts.end()?;

@@ -6,13 +6,16 @@ ghost use Rattle.csyn.specs.declared.mark.Mark.{Mark};
 ghost use Rattle.csyn.specs.declared.token.Token.{Token};
 ghost use Rattle.cgrammar.specs.declared.production.Production.TheVariants as production;
 ghost use Rattle.caction.specs.Make.{Makes};
+ghost use Rattle.std.specs.Prelude.{◌≡◌, IfErr};
+ghost use Rattle.cparts.specs.declared.fault.MakeFault.TheVariants as fault;
 
 use cparts::{MakeFault, Parts, Value};
 use csyn::{Base, CType, Pointer, Pointers, TypeName};
 use std::alloc::Global;
 
 pub fn type_name(mut parts: Parts) -> Result<Value, MakeFault>
-    ensures { (mark : Mark) (tokens : List Token) → Makes production.TypeName mark tokens parts.values result }
+    ensures made { (mark : Mark) (tokens : List Token) → Makes production.TypeName mark tokens parts.values result }
+    ensures sure { IfErr result (λ e. e ≡ fault.Parts) }
 {
     let ctype = parts.next()?;
     let pointers = parts.next()?;
@@ -21,7 +24,8 @@ pub fn type_name(mut parts: Parts) -> Result<Value, MakeFault>
 }
 
 pub fn based(mut parts: Parts) -> Result<Value, MakeFault>
-    ensures { (mark : Mark) (tokens : List Token) → Makes production.Based mark tokens parts.values result }
+    ensures made { (mark : Mark) (tokens : List Token) → Makes production.Based mark tokens parts.values result }
+    ensures sure { IfErr result (λ e. e ≡ fault.Parts) }
 {
     let base = parts.next()?;
     let qualifiers: Pointer = parts.next()?;
@@ -36,7 +40,8 @@ pub fn based(mut parts: Parts) -> Result<Value, MakeFault>
 }
 
 pub fn no_qualifiers(parts: Parts) -> Result<Value, MakeFault>
-    ensures { (mark : Mark) (tokens : List Token) → Makes production.NoQualifiers mark tokens parts.values result }
+    ensures made { (mark : Mark) (tokens : List Token) → Makes production.NoQualifiers mark tokens parts.values result }
+    ensures sure { IfErr result (λ e. e ≡ fault.Parts) }
 {
     parts.end()?;
     Ok(Value::Qualifiers(Pointer {
@@ -46,14 +51,16 @@ pub fn no_qualifiers(parts: Parts) -> Result<Value, MakeFault>
 }
 
 pub fn void_base(parts: Parts) -> Result<Value, MakeFault>
-    ensures { (mark : Mark) (tokens : List Token) → Makes production.VoidBase mark tokens parts.values result }
+    ensures made { (mark : Mark) (tokens : List Token) → Makes production.VoidBase mark tokens parts.values result }
+    ensures sure { IfErr result (λ e. e ≡ fault.Parts) }
 {
     parts.end()?;
     Ok(Value::Base(Base::Void))
 }
 
 pub fn struct_base(mut parts: Parts) -> Result<Value, MakeFault>
-    ensures { (mark : Mark) (tokens : List Token) → Makes production.StructBase mark tokens parts.values result }
+    ensures made { (mark : Mark) (tokens : List Token) → Makes production.StructBase mark tokens parts.values result }
+    ensures sure { IfErr result (λ e. e ≡ fault.Parts) }
 {
     let tag = parts.next()?;
     parts.end()?;
@@ -61,7 +68,8 @@ pub fn struct_base(mut parts: Parts) -> Result<Value, MakeFault>
 }
 
 pub fn integer_base(mut parts: Parts) -> Result<Value, MakeFault>
-    ensures { (mark : Mark) (tokens : List Token) → Makes production.IntegerBase mark tokens parts.values result }
+    ensures made { (mark : Mark) (tokens : List Token) → Makes production.IntegerBase mark tokens parts.values result }
+    ensures sure { IfErr result (λ e. e ≡ fault.Parts) }
 {
     let words = parts.next()?;
     parts.end()?;
@@ -69,7 +77,8 @@ pub fn integer_base(mut parts: Parts) -> Result<Value, MakeFault>
 }
 
 pub fn no_pointers(parts: Parts) -> Result<Value, MakeFault>
-    ensures { (mark : Mark) (tokens : List Token) → Makes production.NoPointers mark tokens parts.values result }
+    ensures made { (mark : Mark) (tokens : List Token) → Makes production.NoPointers mark tokens parts.values result }
+    ensures sure { IfErr result (λ e. e ≡ fault.Parts) }
 {
     parts.end()?;
     Ok(Value::Pointers(Pointers::End))

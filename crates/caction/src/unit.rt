@@ -10,6 +10,8 @@ ghost use Rattle.std.specs.Prelude.{◌≡◌};
 ghost use Rattle.csyn.specs.Bare.{bare_pointers, bare_unit_kind};
 ghost use Rattle.cparts.specs.Value.{bare_rest};
 ghost use Rattle.caction.specs.Make as specs;
+ghost use Rattle.std.specs.Prelude.{IfErr};
+ghost use Rattle.cparts.specs.declared.fault.MakeFault.TheVariants as fault;
 
 use cparts::{ExternalRest, MakeFault, ObjectRest, Parts, Value};
 use csyn::{
@@ -35,7 +37,8 @@ pub fn struct_unit(alloc: Global, mark: Mark, mut parts: Parts) -> Result<Value,
 }
 
 pub fn register_unit(mark: Mark, mut parts: Parts) -> Result<Value, MakeFault>
-    ensures { (tokens : List Token) → Makes production.RegisterUnit mark tokens parts.values result }
+    ensures made { (tokens : List Token) → Makes production.RegisterUnit mark tokens parts.values result }
+    ensures sure { IfErr result (λ e. e ≡ fault.Parts) }
 {
     let () = parts.next()?;
     parts.end()?;
@@ -48,13 +51,15 @@ pub fn register_unit(mark: Mark, mut parts: Parts) -> Result<Value, MakeFault>
 pub fn register_type(parts: Parts) -> Result<Value, MakeFault>
     ensures words { (mark : Mark) (tokens : List Token) → Makes production.UnsignedInt mark tokens parts.values result }
     ensures name { (mark : Mark) (tokens : List Token) → Makes production.RegisterUint32 mark tokens parts.values result }
+    ensures sure { IfErr result (λ e. e ≡ fault.Parts) }
 {
     parts.end()?;
     Ok(Value::RegisterType)
 }
 
 pub fn object_rest(mut parts: Parts) -> Result<Value, MakeFault>
-    ensures { (mark : Mark) (tokens : List Token) → Makes production.ObjectRest mark tokens parts.values result }
+    ensures made { (mark : Mark) (tokens : List Token) → Makes production.ObjectRest mark tokens parts.values result }
+    ensures sure { IfErr result (λ e. e ≡ fault.Parts) }
 {
     let lengths = parts.next()?;
     let location = parts.next()?;
@@ -70,7 +75,8 @@ pub fn object_rest(mut parts: Parts) -> Result<Value, MakeFault>
 }
 
 pub fn function_rest(mut parts: Parts) -> Result<Value, MakeFault>
-    ensures { (mark : Mark) (tokens : List Token) → Makes production.FunctionRest mark tokens parts.values result }
+    ensures made { (mark : Mark) (tokens : List Token) → Makes production.FunctionRest mark tokens parts.values result }
+    ensures sure { IfErr result (λ e. e ≡ fault.Parts) }
 {
     let parameters = parts.next()?;
     let end = parts.next()?;
@@ -79,14 +85,16 @@ pub fn function_rest(mut parts: Parts) -> Result<Value, MakeFault>
 }
 
 pub fn prototype_end(parts: Parts) -> Result<Value, MakeFault>
-    ensures { (mark : Mark) (tokens : List Token) → Makes production.PrototypeEnd mark tokens parts.values result }
+    ensures made { (mark : Mark) (tokens : List Token) → Makes production.PrototypeEnd mark tokens parts.values result }
+    ensures sure { IfErr result (λ e. e ≡ fault.Parts) }
 {
     parts.end()?;
     Ok(Value::FunctionEnd(None))
 }
 
 pub fn function_body(mut parts: Parts) -> Result<Value, MakeFault>
-    ensures { (mark : Mark) (tokens : List Token) → Makes production.FunctionBody mark tokens parts.values result }
+    ensures made { (mark : Mark) (tokens : List Token) → Makes production.FunctionBody mark tokens parts.values result }
+    ensures sure { IfErr result (λ e. e ≡ fault.Parts) }
 {
     let items = parts.next()?;
     parts.end()?;
