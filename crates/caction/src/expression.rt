@@ -1,269 +1,173 @@
 //! Expressions.
-#![tactic(auto, unfolding(crate::specs::Make::table, cparts::specs::Parts::pick))]
+#![tactic(auto, unfolding(crate::specs::Make::table))]
 
 ghost use Rattle.std.specs.Prelude.{List};
 ghost use Rattle.csyn.specs.declared.mark.Mark.{Mark};
 ghost use Rattle.csyn.specs.declared.token.Token.{Token};
-ghost use Rattle.cgrammar.specs.declared.production.Production.TheVariants as production;
 ghost use Rattle.caction.specs.Make.{Makes};
-ghost use Rattle.caction.specs.Make as specs;
-ghost use Rattle.std.specs.Prelude.{◌≡◌, IfErr};
-ghost use Rattle.cparts.specs.declared.fault.MakeFault.TheVariants as fault;
+ghost use Rattle.caction.specs.Forms as forms;
 
-use crate::token::prefix_operator;
-use cparts::{MakeFault, Parts, Value};
-use csyn::{BinaryOperator, Expr, ExprKind, Mark, Member, PostfixOperator, PrefixOperator, Token};
+use cparts::{MakeFault, Value, one, three, two};
+use csyn::{
+    BinaryOperator, ComparisonOperator, Expr, ExprKind, Init, Label, LabelKind, LogicalOperator,
+    Mark, PostfixOperator, PrefixOperator,
+};
 use std::alloc::Global;
+use std::collections::LinkedList;
 
-pub fn name(mark: Mark, mut parts: Parts) -> Result<Value, MakeFault>
-    ensures made { (tokens : List Token) → Makes production.Name mark tokens parts.values result }
-    ensures sure { IfErr result (λ e. e ≡ fault.Parts) }
-{
-    let name = parts.next()?;
-    parts.end()?;
-    Ok(Value::Expr(Expr {
-        mark,
-        kind: ExprKind::Name(name),
-    }))
+macro_rules! expression {
+    ($mark:expr, $kind:expr) => {
+        Ok(Value::Expr(Expr {
+            mark: $mark,
+            kind: $kind,
+        }))
+    };
 }
 
-pub fn parenthesised(mut parts: Parts) -> Result<Value, MakeFault>
-    ensures made { (mark : Mark) (tokens : List Token) → Makes production.Parenthesised mark tokens parts.values result }
-    ensures sure { IfErr result (λ e. e ≡ fault.Parts) }
-{
-    let inner = parts.next()?;
-    parts.end()?;
-    Ok(Value::Expr(inner))
+/// An expression of two expressions.
+#[derive(Clone, Copy)]
+pub enum Pair {
+    Index,
+    Binary(BinaryOperator),
+    Comparison(ComparisonOperator),
+    Logical(LogicalOperator),
+    Assign,
+    AssignWith(BinaryOperator),
+    Comma,
 }
 
-pub fn index(alloc: Global, mark: Mark, mut parts: Parts) -> Result<Value, MakeFault>
-    ensures { (tokens : List Token) → Makes production.Index mark tokens parts.values result }
-{
-    let array = parts.next()?;
-    let place = parts.next()?;
-    parts.end()?;
-    Ok(Value::Expr(Expr {
-        mark,
-        kind: ExprKind::Index(Box::new(alloc, array)?, Box::new(alloc, place)?),
-    }))
-}
-
-pub fn call_function(mark: Mark, mut parts: Parts) -> Result<Value, MakeFault>
-    ensures made { (tokens : List Token) → Makes production.CallFunction mark tokens parts.values result }
-    ensures sure { IfErr result (λ e. e ≡ fault.Parts) }
-{
-    let name = parts.next()?;
-    let arguments = parts.next()?;
-    parts.end()?;
-    Ok(Value::Expr(Expr {
-        mark,
-        kind: ExprKind::CallFunction(name, arguments),
-    }))
-}
-
-pub fn call(alloc: Global, mark: Mark, mut parts: Parts) -> Result<Value, MakeFault>
-    ensures { (tokens : List Token) → Makes production.Call mark tokens parts.values result }
-{
-    let callee = parts.next()?;
-    let arguments = parts.next()?;
-    parts.end()?;
-    Ok(Value::Expr(Expr {
-        mark,
-        kind: ExprKind::Call(Box::new(alloc, callee)?, arguments),
-    }))
-}
-
-pub fn member(alloc: Global, mark: Mark, mut parts: Parts) -> Result<Value, MakeFault>
-    ensures { (tokens : List Token) → Makes production.Member mark tokens parts.values result }
-{
-    let record = parts.next()?;
-    let name = parts.next()?;
-    parts.end()?;
-    Ok(Value::Expr(Expr {
-        mark,
-        kind: ExprKind::Member(Box::new(alloc, record)?, name),
-    }))
-}
-
-pub fn arrow(alloc: Global, mark: Mark, mut parts: Parts) -> Result<Value, MakeFault>
-    ensures { (tokens : List Token) → Makes production.Arrow mark tokens parts.values result }
-{
-    let record = parts.next()?;
-    let name = parts.next()?;
-    parts.end()?;
-    Ok(Value::Expr(Expr {
-        mark,
-        kind: ExprKind::Arrow(Box::new(alloc, record)?, name),
-    }))
-}
-
-pub fn post_increment(alloc: Global, mark: Mark, mut parts: Parts) -> Result<Value, MakeFault>
-    ensures { (tokens : List Token) → Makes production.PostIncrement mark tokens parts.values result }
-{
-    let operand = parts.next()?;
-    parts.end()?;
-    Ok(Value::Expr(Expr {
-        mark,
-        kind: ExprKind::Postfix(PostfixOperator::Increment, Box::new(alloc, operand)?),
-    }))
-}
-
-pub fn post_decrement(alloc: Global, mark: Mark, mut parts: Parts) -> Result<Value, MakeFault>
-    ensures { (tokens : List Token) → Makes production.PostDecrement mark tokens parts.values result }
-{
-    let operand = parts.next()?;
-    parts.end()?;
-    Ok(Value::Expr(Expr {
-        mark,
-        kind: ExprKind::Postfix(PostfixOperator::Decrement, Box::new(alloc, operand)?),
-    }))
-}
-
-pub fn pre_increment(alloc: Global, mark: Mark, mut parts: Parts) -> Result<Value, MakeFault>
-    ensures { (tokens : List Token) → Makes production.PreIncrement mark tokens parts.values result }
-{
-    let operand = parts.next()?;
-    parts.end()?;
-    Ok(Value::Expr(Expr {
-        mark,
-        kind: ExprKind::Prefix(PrefixOperator::Increment, Box::new(alloc, operand)?),
-    }))
-}
-
-pub fn pre_decrement(alloc: Global, mark: Mark, mut parts: Parts) -> Result<Value, MakeFault>
-    ensures { (tokens : List Token) → Makes production.PreDecrement mark tokens parts.values result }
-{
-    let operand = parts.next()?;
-    parts.end()?;
-    Ok(Value::Expr(Expr {
-        mark,
-        kind: ExprKind::Prefix(PrefixOperator::Decrement, Box::new(alloc, operand)?),
-    }))
-}
-
-pub fn sizeof_expression(alloc: Global, mark: Mark, mut parts: Parts) -> Result<Value, MakeFault>
-    ensures { (tokens : List Token) → Makes production.SizeofExpression mark tokens parts.values result }
-{
-    let operand = parts.next()?;
-    parts.end()?;
-    Ok(Value::Expr(Expr {
-        mark,
-        kind: ExprKind::SizeofExpression(Box::new(alloc, operand)?),
-    }))
-}
-
-pub fn sizeof_type(mark: Mark, mut parts: Parts) -> Result<Value, MakeFault>
-    ensures made { (tokens : List Token) → Makes production.SizeofType mark tokens parts.values result }
-    ensures sure { IfErr result (λ e. e ≡ fault.Parts) }
-{
-    let name = parts.next()?;
-    parts.end()?;
-    Ok(Value::Expr(Expr {
-        mark,
-        kind: ExprKind::SizeofType(name),
-    }))
-}
-
-pub fn cast(alloc: Global, mark: Mark, mut parts: Parts) -> Result<Value, MakeFault>
-    ensures { (tokens : List Token) → Makes production.Cast mark tokens parts.values result }
-{
-    let name = parts.next()?;
-    let operand = parts.next()?;
-    parts.end()?;
-    Ok(Value::Expr(Expr {
-        mark,
-        kind: ExprKind::Cast(name, Box::new(alloc, operand)?),
-    }))
-}
-
-pub fn binary(
+/// What is made of two expressions.
+pub fn make_pair(
     alloc: Global,
     mark: Mark,
-    operator: BinaryOperator,
-    mut parts: Parts,
+    form: Pair,
+    values: LinkedList<Value>,
 ) -> Result<Value, MakeFault>
-    ensures { (tokens : List Token) → Makes (production.Binary operator) mark tokens parts.values result }
+    ensures { (tokens : List Token) → Makes (forms.pair form) mark tokens values result }
 {
-    let left = parts.next()?;
-    let right = parts.next()?;
-    parts.end()?;
-    Ok(Value::Expr(Expr {
-        mark,
-        kind: ExprKind::Binary(operator, Box::new(alloc, left)?, Box::new(alloc, right)?),
-    }))
+    let (a, b) = two(alloc, values)?;
+    match form {
+        Pair::Index => expression!(mark, ExprKind::Index(a, b)),
+        Pair::Binary(operator) => expression!(mark, ExprKind::Binary(operator, a, b)),
+        Pair::Comparison(operator) => expression!(mark, ExprKind::Comparison(operator, a, b)),
+        Pair::Logical(operator) => expression!(mark, ExprKind::Logical(operator, a, b)),
+        Pair::Assign => expression!(mark, ExprKind::Assign(a, b)),
+        Pair::AssignWith(operator) => expression!(mark, ExprKind::AssignWith(operator, a, b)),
+        Pair::Comma => expression!(mark, ExprKind::Comma(a, b)),
+    }
 }
 
-pub fn conditional(alloc: Global, mark: Mark, mut parts: Parts) -> Result<Value, MakeFault>
-    ensures { (tokens : List Token) → Makes production.Conditional mark tokens parts.values result }
+/// What has one expression as its part, in a box.
+#[derive(Clone, Copy)]
+pub enum Operand {
+    PostIncrement,
+    PostDecrement,
+    PreIncrement,
+    PreDecrement,
+    SizeofExpression,
+    SomeExpression,
+    Location,
+    InitialExpression,
+    CaseLabel,
+}
+
+/// What is made of one expression.
+pub fn make_operand(
+    alloc: Global,
+    mark: Mark,
+    form: Operand,
+    values: LinkedList<Value>,
+) -> Result<Value, MakeFault>
+    ensures { (tokens : List Token) → Makes (forms.operand form) mark tokens values result }
 {
-    let condition = parts.next()?;
-    let then = parts.next()?;
-    let other = parts.next()?;
-    parts.end()?;
-    Ok(Value::Expr(Expr {
-        mark,
-        kind: ExprKind::Conditional(
-            Box::new(alloc, condition)?,
-            Box::new(alloc, then)?,
-            Box::new(alloc, other)?,
+    let operand = one(alloc, values)?;
+    match form {
+        Operand::PostIncrement => expression!(
+            mark,
+            ExprKind::Postfix(PostfixOperator::Increment, operand)
         ),
-    }))
+        Operand::PostDecrement => expression!(
+            mark,
+            ExprKind::Postfix(PostfixOperator::Decrement, operand)
+        ),
+        Operand::PreIncrement => expression!(
+            mark,
+            ExprKind::Prefix(PrefixOperator::Increment, operand)
+        ),
+        Operand::PreDecrement => expression!(
+            mark,
+            ExprKind::Prefix(PrefixOperator::Decrement, operand)
+        ),
+        Operand::SizeofExpression => expression!(mark, ExprKind::SizeofExpression(operand)),
+        Operand::SomeExpression => Ok(Value::OptionalExpr(Some(operand))),
+        Operand::Location => Ok(Value::OptionalExpr(Some(operand))),
+        Operand::InitialExpression => Ok(Value::Init(Init::Expression(operand))),
+        Operand::CaseLabel => Ok(Value::Label(Label {
+            mark,
+            kind: LabelKind::Case(operand),
+        })),
+    }
 }
 
-pub fn assign(alloc: Global, mark: Mark, mut parts: Parts) -> Result<Value, MakeFault>
-    ensures { (tokens : List Token) → Makes production.Assign mark tokens parts.values result }
-{
-    let target = parts.next()?;
-    let value = parts.next()?;
-    parts.end()?;
-    Ok(Value::Expr(Expr {
-        mark,
-        kind: ExprKind::Assign(Box::new(alloc, target)?, Box::new(alloc, value)?),
-    }))
+/// Any other expression.
+#[derive(Clone, Copy)]
+pub enum Expression {
+    Name,
+    Parenthesised,
+    CallFunction,
+    Call,
+    Member,
+    Arrow,
+    SizeofType,
+    Cast,
+    Conditional,
 }
 
-pub fn assign_with(
+/// What is made of the parts of an expression.
+pub fn make_expression(
     alloc: Global,
     mark: Mark,
-    operator: BinaryOperator,
-    mut parts: Parts,
+    form: Expression,
+    values: LinkedList<Value>,
 ) -> Result<Value, MakeFault>
-    ensures { (tokens : List Token) → Makes (production.AssignWith operator) mark tokens parts.values result }
+    ensures { (tokens : List Token) → Makes (forms.expression form) mark tokens values result }
 {
-    let target = parts.next()?;
-    let value = parts.next()?;
-    parts.end()?;
-    Ok(Value::Expr(Expr {
-        mark,
-        kind: ExprKind::AssignWith(operator, Box::new(alloc, target)?, Box::new(alloc, value)?),
-    }))
-}
-
-pub fn comma(alloc: Global, mark: Mark, mut parts: Parts) -> Result<Value, MakeFault>
-    ensures { (tokens : List Token) → Makes production.Comma mark tokens parts.values result }
-{
-    let left = parts.next()?;
-    let right = parts.next()?;
-    parts.end()?;
-    Ok(Value::Expr(Expr {
-        mark,
-        kind: ExprKind::Comma(Box::new(alloc, left)?, Box::new(alloc, right)?),
-    }))
-}
-
-pub fn prefix(
-    alloc: Global,
-    mark: Mark,
-    tokens: &[Token],
-    mut parts: Parts,
-) -> Result<Value, MakeFault>
-    ensures { Makes production.Prefix mark tokens.now parts.values result }
-{
-    let operand = parts.next()?;
-    parts.end()?;
-    let operator = prefix_operator(tokens).ok_or(MakeFault::Parts)?;
-    Ok(Value::Expr(Expr {
-        mark,
-        kind: ExprKind::Prefix(operator, Box::new(alloc, operand)?),
-    }))
+    match form {
+        Expression::Name => {
+            let name = one(alloc, values)?;
+            expression!(mark, ExprKind::Name(name))
+        }
+        Expression::Parenthesised => {
+            let inner = one(alloc, values)?;
+            Ok(Value::Expr(inner))
+        }
+        Expression::CallFunction => {
+            let (name, arguments) = two(alloc, values)?;
+            expression!(mark, ExprKind::CallFunction(name, arguments))
+        }
+        Expression::Call => {
+            let (callee, arguments) = two(alloc, values)?;
+            expression!(mark, ExprKind::Call(callee, arguments))
+        }
+        Expression::Member => {
+            let (record, name) = two(alloc, values)?;
+            expression!(mark, ExprKind::Member(record, name))
+        }
+        Expression::Arrow => {
+            let (record, name) = two(alloc, values)?;
+            expression!(mark, ExprKind::Arrow(record, name))
+        }
+        Expression::SizeofType => {
+            let name = one(alloc, values)?;
+            expression!(mark, ExprKind::SizeofType(name))
+        }
+        Expression::Cast => {
+            let (name, operand) = two(alloc, values)?;
+            expression!(mark, ExprKind::Cast(name, operand))
+        }
+        Expression::Conditional => {
+            let (condition, then, other) = three(alloc, values)?;
+            expression!(mark, ExprKind::Conditional(condition, then, other))
+        }
+    }
 }

@@ -2,6 +2,7 @@
 #![tactic(auto)]
 
 mod declaration;
+mod empty;
 mod expression;
 mod list;
 mod statement;

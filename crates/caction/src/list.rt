@@ -1,205 +1,114 @@
 //! What is made in a row: arguments, lengths, members, items, units and the like.
-#![tactic(auto, unfolding(crate::specs::Make::table, cparts::specs::Parts::pick))]
+#![tactic(auto, unfolding(crate::specs::Make::table))]
 
 ghost use Rattle.std.specs.Prelude.{List};
 ghost use Rattle.csyn.specs.declared.mark.Mark.{Mark};
 ghost use Rattle.csyn.specs.declared.token.Token.{Token};
-ghost use Rattle.cgrammar.specs.declared.production.Production.TheVariants as production;
 ghost use Rattle.caction.specs.Make.{Makes};
-ghost use Rattle.std.specs.Prelude.{◌≡◌, IfErr};
-ghost use Rattle.cparts.specs.declared.fault.MakeFault.TheVariants as fault;
+ghost use Rattle.caction.specs.Forms as forms;
 
-use cparts::{MakeFault, Parts, Value};
+use cparts::{MakeFault, Value, one, two};
 use csyn::{
-    Declarators, Exprs, InitDeclarators, Inits, Items, Members, Object, ParameterList, Units,
+    Declarators, Exprs, InitDeclarators, Inits, Items, Members, ParameterList, Parameters,
+    SwitchItems, Units,
 };
 use std::alloc::Global;
+use std::collections::LinkedList;
 
-pub fn no_exprs(parts: Parts) -> Result<Value, MakeFault>
-    ensures none { (mark : Mark) (tokens : List Token) → Makes production.NoArguments mark tokens parts.values result }
-    ensures end { (mark : Mark) (tokens : List Token) → Makes production.EndArguments mark tokens parts.values result }
-    ensures lengths { (mark : Mark) (tokens : List Token) → Makes production.NoLengths mark tokens parts.values result }
-    ensures sure { IfErr result (λ e. e ≡ fault.Parts) }
-{
-    parts.end()?;
-    Ok(Value::Exprs(Exprs::End))
+/// One more in a row.
+#[derive(Clone, Copy)]
+pub enum More {
+    SomeArguments,
+    NextArgument,
+    Length,
+    NextDeclarator,
+    NextMember,
+    NextInit,
+    CommaInits,
+    NextInitDeclarator,
+    FirstLabel,
+    NextLabel,
+    NextSwitchStatement,
+    NextObject,
+    NextStatement,
+    SomeParameters,
+    NextParameter,
+    NextUnit,
+    Source,
 }
 
-pub fn more_exprs(alloc: Global, mut parts: Parts) -> Result<Value, MakeFault>
-    ensures first { (mark : Mark) (tokens : List Token) → Makes production.SomeArguments mark tokens parts.values result }
-    ensures next { (mark : Mark) (tokens : List Token) → Makes production.NextArgument mark tokens parts.values result }
-    ensures lengths { (mark : Mark) (tokens : List Token) → Makes production.Length mark tokens parts.values result }
+/// What is made of one and of those behind it.
+pub fn make_more(alloc: Global, form: More, values: LinkedList<Value>) -> Result<Value, MakeFault>
+    ensures { (mark : Mark) (tokens : List Token) → Makes (forms.more form) mark tokens values result }
 {
-    let first = parts.next()?;
-    let rest = parts.next()?;
-    parts.end()?;
-    Ok(Value::Exprs(Exprs::More(Box::new(alloc, first)?, Box::new(alloc, rest)?)))
-}
-
-pub fn no_expression(parts: Parts) -> Result<Value, MakeFault>
-    ensures expression { (mark : Mark) (tokens : List Token) → Makes production.NoExpression mark tokens parts.values result }
-    ensures location { (mark : Mark) (tokens : List Token) → Makes production.NoLocation mark tokens parts.values result }
-    ensures sure { IfErr result (λ e. e ≡ fault.Parts) }
-{
-    parts.end()?;
-    Ok(Value::OptionalExpr(None))
-}
-
-pub fn some_expression(alloc: Global, mut parts: Parts) -> Result<Value, MakeFault>
-    ensures expression { (mark : Mark) (tokens : List Token) → Makes production.SomeExpression mark tokens parts.values result }
-    ensures location { (mark : Mark) (tokens : List Token) → Makes production.Location mark tokens parts.values result }
-{
-    let expression = parts.next()?;
-    parts.end()?;
-    Ok(Value::OptionalExpr(Some(Box::new(alloc, expression)?)))
-}
-
-pub fn no_declarators(parts: Parts) -> Result<Value, MakeFault>
-    ensures made { (mark : Mark) (tokens : List Token) → Makes production.EndDeclarators mark tokens parts.values result }
-    ensures sure { IfErr result (λ e. e ≡ fault.Parts) }
-{
-    parts.end()?;
-    Ok(Value::Declarators(Declarators::End))
-}
-
-pub fn more_declarators(alloc: Global, mut parts: Parts) -> Result<Value, MakeFault>
-    ensures { (mark : Mark) (tokens : List Token) → Makes production.NextDeclarator mark tokens parts.values result }
-{
-    let first = parts.next()?;
-    let rest = parts.next()?;
-    parts.end()?;
-    Ok(Value::Declarators(Declarators::More(Box::new(alloc, first)?, Box::new(alloc, rest)?)))
-}
-
-pub fn no_members(parts: Parts) -> Result<Value, MakeFault>
-    ensures made { (mark : Mark) (tokens : List Token) → Makes production.EndMembers mark tokens parts.values result }
-    ensures sure { IfErr result (λ e. e ≡ fault.Parts) }
-{
-    parts.end()?;
-    Ok(Value::Members(Members::End))
-}
-
-pub fn more_members(alloc: Global, mut parts: Parts) -> Result<Value, MakeFault>
-    ensures { (mark : Mark) (tokens : List Token) → Makes production.NextMember mark tokens parts.values result }
-{
-    let first = parts.next()?;
-    let rest = parts.next()?;
-    parts.end()?;
-    Ok(Value::Members(Members::More(Box::new(alloc, first)?, Box::new(alloc, rest)?)))
-}
-
-pub fn no_inits(parts: Parts) -> Result<Value, MakeFault>
-    ensures end { (mark : Mark) (tokens : List Token) → Makes production.EndInits mark tokens parts.values result }
-    ensures comma { (mark : Mark) (tokens : List Token) → Makes production.TrailingComma mark tokens parts.values result }
-    ensures sure { IfErr result (λ e. e ≡ fault.Parts) }
-{
-    parts.end()?;
-    Ok(Value::Inits(Inits::End))
-}
-
-pub fn more_inits(alloc: Global, mut parts: Parts) -> Result<Value, MakeFault>
-    ensures { (mark : Mark) (tokens : List Token) → Makes production.NextInit mark tokens parts.values result }
-{
-    let first = parts.next()?;
-    let rest = parts.next()?;
-    parts.end()?;
-    Ok(Value::Inits(Inits::More(Box::new(alloc, first)?, Box::new(alloc, rest)?)))
-}
-
-pub fn comma_inits(mut parts: Parts) -> Result<Value, MakeFault>
-    ensures made { (mark : Mark) (tokens : List Token) → Makes production.CommaInits mark tokens parts.values result }
-    ensures sure { IfErr result (λ e. e ≡ fault.Parts) }
-{
-    let inits = parts.next()?;
-    parts.end()?;
-    Ok(Value::Inits(inits))
-}
-
-pub fn no_init_declarators(parts: Parts) -> Result<Value, MakeFault>
-    ensures made { (mark : Mark) (tokens : List Token) → Makes production.EndInitDeclarators mark tokens parts.values result }
-    ensures sure { IfErr result (λ e. e ≡ fault.Parts) }
-{
-    parts.end()?;
-    Ok(Value::InitDeclarators(InitDeclarators::End))
-}
-
-pub fn more_init_declarators(alloc: Global, mut parts: Parts) -> Result<Value, MakeFault>
-    ensures { (mark : Mark) (tokens : List Token) → Makes production.NextInitDeclarator mark tokens parts.values result }
-{
-    let first = parts.next()?;
-    let rest = parts.next()?;
-    parts.end()?;
-    Ok(Value::InitDeclarators(InitDeclarators::More(
-        Box::new(alloc, first)?,
-        Box::new(alloc, rest)?,
-    )))
-}
-
-pub fn no_items(parts: Parts) -> Result<Value, MakeFault>
-    ensures made { (mark : Mark) (tokens : List Token) → Makes production.EndItems mark tokens parts.values result }
-    ensures sure { IfErr result (λ e. e ≡ fault.Parts) }
-{
-    parts.end()?;
-    Ok(Value::Items(Items::End))
-}
-
-pub fn next_object(alloc: Global, mut parts: Parts) -> Result<Value, MakeFault>
-    ensures { (mark : Mark) (tokens : List Token) → Makes production.NextObject mark tokens parts.values result }
-{
-    let object = parts.next()?;
-    let rest = parts.next()?;
-    parts.end()?;
-    Ok(Value::Items(Items::Object(Box::new(alloc, object)?, Box::new(alloc, rest)?)))
-}
-
-pub fn next_statement(alloc: Global, mut parts: Parts) -> Result<Value, MakeFault>
-    ensures { (mark : Mark) (tokens : List Token) → Makes production.NextStatement mark tokens parts.values result }
-{
-    let statement = parts.next()?;
-    let rest = parts.next()?;
-    parts.end()?;
-    Ok(Value::Items(Items::Statement(Box::new(alloc, statement)?, Box::new(alloc, rest)?)))
-}
-
-pub fn no_parameters(parts: Parts) -> Result<Value, MakeFault>
-    ensures made { (mark : Mark) (tokens : List Token) → Makes production.EndParameters mark tokens parts.values result }
-    ensures sure { IfErr result (λ e. e ≡ fault.Parts) }
-{
-    parts.end()?;
-    Ok(Value::ParameterList(ParameterList::End))
-}
-
-pub fn more_parameters(alloc: Global, mut parts: Parts) -> Result<Value, MakeFault>
-    ensures { (mark : Mark) (tokens : List Token) → Makes production.NextParameter mark tokens parts.values result }
-{
-    let first = parts.next()?;
-    let rest = parts.next()?;
-    parts.end()?;
-    Ok(Value::ParameterList(ParameterList::More(Box::new(alloc, first)?, Box::new(alloc, rest)?)))
-}
-
-pub fn no_units(parts: Parts) -> Result<Value, MakeFault>
-    ensures made { (mark : Mark) (tokens : List Token) → Makes production.EndUnits mark tokens parts.values result }
-    ensures sure { IfErr result (λ e. e ≡ fault.Parts) }
-{
-    parts.end()?;
-    Ok(Value::Units(Units::End))
-}
-
-pub fn more_units(alloc: Global, mut parts: Parts) -> Result<Value, MakeFault>
-    ensures { (mark : Mark) (tokens : List Token) → Makes production.NextUnit mark tokens parts.values result }
-{
-    let first = parts.next()?;
-    let rest = parts.next()?;
-    parts.end()?;
-    Ok(Value::Units(Units::More(Box::new(alloc, first)?, Box::new(alloc, rest)?)))
-}
-
-pub fn source(mut parts: Parts) -> Result<Value, MakeFault>
-    ensures made { (mark : Mark) (tokens : List Token) → Makes production.Source mark tokens parts.values result }
-    ensures sure { IfErr result (λ e. e ≡ fault.Parts) }
-{
-    let units = parts.next()?;
-    parts.end()?;
-    Ok(Value::Units(units))
+    match form {
+        More::SomeArguments => {
+            let (first, rest) = two(alloc, values)?;
+            Ok(Value::Exprs(Exprs::More(first, rest)))
+        }
+        More::NextArgument => {
+            let (first, rest) = two(alloc, values)?;
+            Ok(Value::Exprs(Exprs::More(first, rest)))
+        }
+        More::Length => {
+            let (first, rest) = two(alloc, values)?;
+            Ok(Value::Exprs(Exprs::More(first, rest)))
+        }
+        More::NextDeclarator => {
+            let (first, rest) = two(alloc, values)?;
+            Ok(Value::Declarators(Declarators::More(first, rest)))
+        }
+        More::NextMember => {
+            let (first, rest) = two(alloc, values)?;
+            Ok(Value::Members(Members::More(first, rest)))
+        }
+        More::NextInit => {
+            let (first, rest) = two(alloc, values)?;
+            Ok(Value::Inits(Inits::More(first, rest)))
+        }
+        More::CommaInits => {
+            let inits = one(alloc, values)?;
+            Ok(Value::Inits(inits))
+        }
+        More::NextInitDeclarator => {
+            let (first, rest) = two(alloc, values)?;
+            Ok(Value::InitDeclarators(InitDeclarators::More(first, rest)))
+        }
+        More::FirstLabel => {
+            let (label, rest) = two(alloc, values)?;
+            Ok(Value::SwitchItems(SwitchItems::Label(label, rest)))
+        }
+        More::NextLabel => {
+            let (label, rest) = two(alloc, values)?;
+            Ok(Value::SwitchItems(SwitchItems::Label(label, rest)))
+        }
+        More::NextSwitchStatement => {
+            let (statement, rest) = two(alloc, values)?;
+            Ok(Value::SwitchItems(SwitchItems::Statement(statement, rest)))
+        }
+        More::NextObject => {
+            let (object, rest) = two(alloc, values)?;
+            Ok(Value::Items(Items::Object(object, rest)))
+        }
+        More::NextStatement => {
+            let (statement, rest) = two(alloc, values)?;
+            Ok(Value::Items(Items::Statement(statement, rest)))
+        }
+        More::SomeParameters => {
+            let (first, rest) = two(alloc, values)?;
+            Ok(Value::Parameters(Parameters::Some(ParameterList::More(first, rest))))
+        }
+        More::NextParameter => {
+            let (first, rest) = two(alloc, values)?;
+            Ok(Value::ParameterList(ParameterList::More(first, rest)))
+        }
+        More::NextUnit => {
+            let (first, rest) = two(alloc, values)?;
+            Ok(Value::Units(Units::More(first, rest)))
+        }
+        More::Source => {
+            let units = one(alloc, values)?;
+            Ok(Value::Units(units))
+        }
+    }
 }

@@ -1,187 +1,122 @@
 //! Statements.
-#![tactic(auto, unfolding(crate::specs::Make::table, cparts::specs::Parts::pick))]
+#![tactic(auto, unfolding(crate::specs::Make::table))]
 
-ghost use Rattle.std.specs.Prelude.{IfOk, List};
+ghost use Rattle.std.specs.Prelude.{List};
 ghost use Rattle.csyn.specs.declared.mark.Mark.{Mark};
 ghost use Rattle.csyn.specs.declared.token.Token.{Token};
-ghost use Rattle.cgrammar.specs.declared.production.Production.TheVariants as production;
-ghost use Rattle.caction.specs.Make.{Makes};
 ghost use Rattle.std.specs.Prelude.{◌≡◌};
-ghost use Rattle.csyn.specs.Bare.{bare_expr, bare_stmt, bare_stmt_kind, option_bare};
-ghost use Rattle.caction.specs.Make.{if_of};
-ghost use Rattle.std.specs.Prelude.{IfErr};
-ghost use Rattle.cparts.specs.declared.fault.MakeFault.TheVariants as fault;
+ghost use Rattle.csyn.specs.Bare.{bare_expr, bare_stmt, bare_stmt_kind, box_bare, option_bare};
+ghost use Rattle.cgrammar.specs.declared.production.Production.TheVariants as production;
+ghost use Rattle.caction.specs.Make.{Makes, if_of};
+ghost use Rattle.caction.specs.Forms as forms;
 
-use cparts::{MakeFault, Parts, Value};
-use csyn::{Expr, ForFirst, Mark, Object, Stmt, StmtKind};
-use std::alloc::{AllocError, Global};
+use cparts::{MakeFault, Value, four, one, three, two};
+use csyn::{Expr, ForFirst, Mark, Stmt, StmtKind};
+use std::alloc::Global;
+use std::collections::LinkedList;
 
-pub fn block(mark: Mark, mut parts: Parts) -> Result<Value, MakeFault>
-    ensures made { (tokens : List Token) → Makes production.Block mark tokens parts.values result }
-    ensures sure { IfErr result (λ e. e ≡ fault.Parts) }
-{
-    let items = parts.next()?;
-    parts.end()?;
-    Ok(Value::Stmt(Stmt {
-        mark,
-        kind: StmtKind::Block(items),
-    }))
+macro_rules! statement {
+    ($mark:expr, $kind:expr) => {
+        Ok(Value::Stmt(Stmt {
+            mark: $mark,
+            kind: $kind,
+        }))
+    };
 }
 
-pub fn expression(mark: Mark, mut parts: Parts) -> Result<Value, MakeFault>
-    ensures made { (tokens : List Token) → Makes production.ExpressionStatement mark tokens parts.values result }
-    ensures sure { IfErr result (λ e. e ≡ fault.Parts) }
-{
-    let expression = parts.next()?;
-    parts.end()?;
-    Ok(Value::Stmt(Stmt {
-        mark,
-        kind: StmtKind::Expression(expression),
-    }))
+/// A statement with parts, or a part of one.
+#[derive(Clone, Copy)]
+pub enum Statement {
+    Block,
+    ExpressionStatement,
+    Else,
+    While,
+    Do,
+    ForObject,
+    ForExpression,
+    For,
+    Switch,
+    Return,
+    Region,
 }
 
-pub fn no_else(parts: Parts) -> Result<Value, MakeFault>
-    ensures made { (mark : Mark) (tokens : List Token) → Makes production.NoElse mark tokens parts.values result }
-    ensures sure { IfErr result (λ e. e ≡ fault.Parts) }
-{
-    parts.end()?;
-    Ok(Value::OptionalStmt(None))
-}
-
-pub fn else_branch(alloc: Global, mut parts: Parts) -> Result<Value, MakeFault>
-    ensures { (mark : Mark) (tokens : List Token) → Makes production.Else mark tokens parts.values result }
-{
-    let branch = parts.next()?;
-    parts.end()?;
-    Ok(Value::OptionalStmt(Some(Box::new(alloc, branch)?)))
-}
-
-pub fn while_loop(alloc: Global, mark: Mark, mut parts: Parts) -> Result<Value, MakeFault>
-    ensures { (tokens : List Token) → Makes production.While mark tokens parts.values result }
-{
-    let condition = parts.next()?;
-    let body = parts.next()?;
-    parts.end()?;
-    Ok(Value::Stmt(Stmt {
-        mark,
-        kind: StmtKind::While(Box::new(alloc, condition)?, Box::new(alloc, body)?),
-    }))
-}
-
-pub fn do_loop(alloc: Global, mark: Mark, mut parts: Parts) -> Result<Value, MakeFault>
-    ensures { (tokens : List Token) → Makes production.Do mark tokens parts.values result }
-{
-    let body = parts.next()?;
-    let condition = parts.next()?;
-    parts.end()?;
-    Ok(Value::Stmt(Stmt {
-        mark,
-        kind: StmtKind::Do(Box::new(alloc, body)?, Box::new(alloc, condition)?),
-    }))
-}
-
-pub fn for_object(alloc: Global, mut parts: Parts) -> Result<Value, MakeFault>
-    ensures { (mark : Mark) (tokens : List Token) → Makes production.ForObject mark tokens parts.values result }
-{
-    let object = parts.next()?;
-    parts.end()?;
-    Ok(Value::ForFirst(ForFirst::Object(Box::new(alloc, object)?)))
-}
-
-pub fn for_expression(mut parts: Parts) -> Result<Value, MakeFault>
-    ensures made { (mark : Mark) (tokens : List Token) → Makes production.ForExpression mark tokens parts.values result }
-    ensures sure { IfErr result (λ e. e ≡ fault.Parts) }
-{
-    let expression = parts.next()?;
-    parts.end()?;
-    Ok(Value::ForFirst(ForFirst::Expression(expression)))
-}
-
-pub fn for_loop(alloc: Global, mark: Mark, mut parts: Parts) -> Result<Value, MakeFault>
-    ensures { (tokens : List Token) → Makes production.For mark tokens parts.values result }
-{
-    let first = parts.next()?;
-    let condition = parts.next()?;
-    let next = parts.next()?;
-    let body = parts.next()?;
-    parts.end()?;
-    Ok(Value::Stmt(Stmt {
-        mark,
-        kind: StmtKind::For(first, condition, next, Box::new(alloc, body)?),
-    }))
-}
-
-pub fn break_loop(mark: Mark, parts: Parts) -> Result<Value, MakeFault>
-    ensures made { (tokens : List Token) → Makes production.Break mark tokens parts.values result }
-    ensures sure { IfErr result (λ e. e ≡ fault.Parts) }
-{
-    parts.end()?;
-    Ok(Value::Stmt(Stmt {
-        mark,
-        kind: StmtKind::Break,
-    }))
-}
-
-pub fn continue_loop(mark: Mark, parts: Parts) -> Result<Value, MakeFault>
-    ensures made { (tokens : List Token) → Makes production.Continue mark tokens parts.values result }
-    ensures sure { IfErr result (λ e. e ≡ fault.Parts) }
-{
-    parts.end()?;
-    Ok(Value::Stmt(Stmt {
-        mark,
-        kind: StmtKind::Continue,
-    }))
-}
-
-pub fn return_value(mark: Mark, mut parts: Parts) -> Result<Value, MakeFault>
-    ensures made { (tokens : List Token) → Makes production.Return mark tokens parts.values result }
-    ensures sure { IfErr result (λ e. e ≡ fault.Parts) }
-{
-    let expression = parts.next()?;
-    parts.end()?;
-    Ok(Value::Stmt(Stmt {
-        mark,
-        kind: StmtKind::Return(expression),
-    }))
-}
-
-pub fn region(mark: Mark, mut parts: Parts) -> Result<Value, MakeFault>
-    ensures made { (tokens : List Token) → Makes production.Region mark tokens parts.values result }
-    ensures sure { IfErr result (λ e. e ≡ fault.Parts) }
-{
-    let name = parts.next()?;
-    let items = parts.next()?;
-    parts.end()?;
-    Ok(Value::Stmt(Stmt {
-        mark,
-        kind: StmtKind::Region(name, items),
-    }))
-}
-
-/// An if, with what follows its first branch.
-fn if_kind(
+/// What is made of the parts of a statement.
+pub fn make_statement(
     alloc: Global,
-    condition: Expr,
-    branch: Stmt,
-    other: Option<Box<Stmt>>,
-) -> Result<StmtKind, AllocError>
-    ensures { IfOk result (λ kind. bare_stmt_kind kind ≡ if_of (bare_expr condition) (bare_stmt branch) (option_bare bare_stmt other)) }
+    mark: Mark,
+    form: Statement,
+    values: LinkedList<Value>,
+) -> Result<Value, MakeFault>
+    ensures { (tokens : List Token) → Makes (forms.statement form) mark tokens values result }
 {
-    let condition = Box::new(alloc, condition)?;
-    let branch = Box::new(alloc, branch)?;
-    match other {
-        None => Ok(StmtKind::If(condition, branch)),
-        Some(other) => Ok(StmtKind::IfElse(condition, branch, other)),
+    match form {
+        Statement::Block => {
+            let items = one(alloc, values)?;
+            statement!(mark, StmtKind::Block(items))
+        }
+        Statement::ExpressionStatement => {
+            let expression = one(alloc, values)?;
+            statement!(mark, StmtKind::Expression(expression))
+        }
+        Statement::Else => {
+            let branch = one(alloc, values)?;
+            Ok(Value::OptionalStmt(Some(branch)))
+        }
+        Statement::While => {
+            let (condition, body) = two(alloc, values)?;
+            statement!(mark, StmtKind::While(condition, body))
+        }
+        Statement::Do => {
+            let (body, condition) = two(alloc, values)?;
+            statement!(mark, StmtKind::Do(body, condition))
+        }
+        Statement::ForObject => {
+            let object = one(alloc, values)?;
+            Ok(Value::ForFirst(ForFirst::Object(object)))
+        }
+        Statement::ForExpression => {
+            let expression = one(alloc, values)?;
+            Ok(Value::ForFirst(ForFirst::Expression(expression)))
+        }
+        Statement::For => {
+            let (first, condition, next, body) = four(alloc, values)?;
+            statement!(mark, StmtKind::For(first, condition, next, body))
+        }
+        Statement::Switch => {
+            let (value, items) = two(alloc, values)?;
+            statement!(mark, StmtKind::Switch(value, items))
+        }
+        Statement::Return => {
+            let expression = one(alloc, values)?;
+            statement!(mark, StmtKind::Return(expression))
+        }
+        Statement::Region => {
+            let (name, items) = two(alloc, values)?;
+            statement!(mark, StmtKind::Region(name, items))
+        }
     }
 }
 
-pub fn if_branch(alloc: Global, mark: Mark, mut parts: Parts) -> Result<Value, MakeFault>
-    ensures { (tokens : List Token) → Makes production.If mark tokens parts.values result }
+/// An if, with what follows its first branch.
+fn if_kind(condition: Box<Expr>, branch: Box<Stmt>, other: Option<Box<Stmt>>) -> StmtKind
+    ensures { bare_stmt_kind result ≡ if_of (box_bare bare_expr condition) (box_bare bare_stmt branch) (option_bare bare_stmt other) }
 {
-    let condition = parts.next()?;
-    let branch = parts.next()?;
-    let other = parts.next()?;
-    parts.end()?;
-    let kind = if_kind(alloc, condition, branch, other)?;
-    Ok(Value::Stmt(Stmt { mark, kind }))
+    match other {
+        None => StmtKind::If(condition, branch),
+        Some(other) => StmtKind::IfElse(condition, branch, other),
+    }
+}
+
+pub fn if_statement(
+    alloc: Global,
+    mark: Mark,
+    values: LinkedList<Value>,
+) -> Result<Value, MakeFault>
+    ensures { (tokens : List Token) → Makes production.If mark tokens values result }
+{
+    let (condition, branch, other) = three(alloc, values)?;
+    Ok(Value::Stmt(Stmt {
+        mark,
+        kind: if_kind(condition, branch, other),
+    }))
 }

@@ -1,7 +1,7 @@
 //! Values that depend on a token.
-#![tactic(auto, unfolding(crate::specs::Make::table, cparts::specs::Parts::pick))]
+#![tactic(auto, unfolding(crate::specs::Make::table))]
 
-ghost use Rattle.std.specs.Prelude.{◌≡◌, IfOk};
+ghost use Rattle.std.specs.Prelude.{◌≡◌, Err, IfOk};
 ghost use Rattle.std.specs.Option.{option_copied, option_map};
 ghost use Rattle.csyn.specs.declared.mark.Mark.{Mark};
 ghost use Rattle.cgrammar.specs.declared.production.Production.TheVariants as production;
@@ -13,12 +13,13 @@ ghost use Rattle.caction.specs.Make as specs;
 ghost use Rattle.std.specs.Prelude.{IfErr};
 ghost use Rattle.cparts.specs.declared.fault.MakeFault.TheVariants as fault;
 
-use cparts::{MakeFault, Parts, Value};
+use cparts::{MakeFault, Value, none, one};
 use csyn::{
-    Base, CType, Character, Expr, ExprKind, IntegerWords, Keyword, Length, Mark, Number, Pointer,
-    PrefixOperator, Punctuator, Sign, Text, Token, TokenKind,
+    Base, Character, Expr, ExprKind, IntegerWords, Keyword, Length, Mark, Number, Pointer,
+    PrefixOperator, Punctuator, Sign, Specifiers, Text, Token, TokenKind,
 };
 use std::alloc::{AllocError, Global};
+use std::collections::LinkedList;
 
 fn first(tokens: &[Token]) -> Option<&TokenKind>
     ensures { option_copied result ≡ specs.first tokens.now }
@@ -44,30 +45,43 @@ fn copied(alloc: Global, text: &Text) -> Result<Text, AllocError>
     Ok(Text::new(text.as_bytes().to_vec(alloc)?))
 }
 
-pub fn identifier(alloc: Global, tokens: &[Token], parts: Parts) -> Result<Value, MakeFault>
-    ensures { (mark : Mark) → Makes production.Identifier mark tokens.now parts.values result }
+pub fn identifier(
+    alloc: Global,
+    tokens: &[Token],
+    values: LinkedList<Value>,
+) -> Result<Value, MakeFault>
+    ensures { (mark : Mark) → Makes production.Identifier mark tokens.now values result }
 {
-    parts.end()?;
+    none(values)?;
     match first(tokens) {
         Some(TokenKind::Identifier(name)) => Ok(Value::Text(copied(alloc, name)?)),
         _ => Err(MakeFault::Parts),
     }
 }
 
-pub fn region_name(alloc: Global, tokens: &[Token], parts: Parts) -> Result<Value, MakeFault>
-    ensures { (mark : Mark) → Makes production.RegionName mark tokens.now parts.values result }
+pub fn region_name(
+    alloc: Global,
+    tokens: &[Token],
+    values: LinkedList<Value>,
+) -> Result<Value, MakeFault>
+    ensures { (mark : Mark) → Makes production.RegionName mark tokens.now values result }
 {
-    parts.end()?;
+    none(values)?;
     match first(tokens) {
         Some(TokenKind::Literal(bytes)) => Ok(Value::Text(copied(alloc, bytes)?)),
         _ => Err(MakeFault::Parts),
     }
 }
 
-pub fn number(alloc: Global, mark: Mark, tokens: &[Token], parts: Parts) -> Result<Value, MakeFault>
-    ensures { Makes production.Number mark tokens.now parts.values result }
+pub fn number(
+    alloc: Global,
+    mark: Mark,
+    tokens: &[Token],
+    values: LinkedList<Value>,
+) -> Result<Value, MakeFault>
+    ensures { Makes production.Number mark tokens.now values result }
 {
-    parts.end()?;
+    none(values)?;
     match first(tokens) {
         Some(TokenKind::Number(number)) => {
             let spelling = copied(alloc, &number.spelling)?;
@@ -86,11 +100,11 @@ pub fn character(
     alloc: Global,
     mark: Mark,
     tokens: &[Token],
-    parts: Parts,
+    values: LinkedList<Value>,
 ) -> Result<Value, MakeFault>
-    ensures { Makes production.Character mark tokens.now parts.values result }
+    ensures { Makes production.Character mark tokens.now values result }
 {
-    parts.end()?;
+    none(values)?;
     match first(tokens) {
         Some(TokenKind::Character(character)) => {
             let spelling = copied(alloc, &character.spelling)?;
@@ -119,39 +133,44 @@ pub fn prefix_operator(tokens: &[Token]) -> Option<PrefixOperator>
     }
 }
 
-pub fn standard_base(tokens: &[Token], parts: Parts) -> Result<Value, MakeFault>
-    ensures made { (mark : Mark) → Makes production.StandardBase mark tokens.now parts.values result }
+pub fn standard_base(tokens: &[Token], values: LinkedList<Value>) -> Result<Value, MakeFault>
+    ensures made { (mark : Mark) → Makes production.StandardBase mark tokens.now values result }
     ensures sure { IfErr result (λ e. e ≡ fault.Parts) }
 {
-    parts.end()?;
+    none(values)?;
     match first(tokens) {
         Some(TokenKind::Standard(name)) => Ok(Value::Base(Base::Standard(*name))),
         _ => Err(MakeFault::Parts),
     }
 }
 
-pub fn specified(tokens: &[Token], mut parts: Parts) -> Result<Value, MakeFault>
-    ensures made { (mark : Mark) → Makes production.Specified mark tokens.now parts.values result }
-    ensures sure { IfErr result (λ e. e ≡ fault.Parts) }
+/// A type behind one more specifier.
+pub fn specified(
+    alloc: Global,
+    tokens: &[Token],
+    values: LinkedList<Value>,
+) -> Result<Value, MakeFault>
+    ensures { (mark : Mark) → Makes production.Specified mark tokens.now values result }
 {
-    let mut ctype: CType = parts.next()?;
-    parts.end()?;
+    let mut specifiers: Specifiers = one(alloc, values)?;
     match first(tokens) {
-        Some(TokenKind::Keyword(Keyword::Static)) => ctype.is_static = true,
-        Some(TokenKind::Keyword(Keyword::Inline)) => ctype.is_inline = true,
-        Some(TokenKind::Keyword(Keyword::Const)) => ctype.is_const = true,
-        Some(TokenKind::Keyword(Keyword::Volatile)) => ctype.is_volatile = true,
+        Some(TokenKind::Keyword(Keyword::Static)) => specifiers.is_static = true,
+        Some(TokenKind::Keyword(Keyword::Inline)) => specifiers.is_inline = true,
+        Some(TokenKind::Keyword(Keyword::Const)) => specifiers.is_const = true,
+        Some(TokenKind::Keyword(Keyword::Volatile)) => specifiers.is_volatile = true,
         _ => return Err(MakeFault::Parts),
     }
-    Ok(Value::CType(ctype))
+    Ok(Value::Specifiers(specifiers))
 }
 
-pub fn qualified(tokens: &[Token], mut parts: Parts) -> Result<Value, MakeFault>
-    ensures made { (mark : Mark) → Makes production.Qualified mark tokens.now parts.values result }
-    ensures sure { IfErr result (λ e. e ≡ fault.Parts) }
+pub fn qualified(
+    alloc: Global,
+    tokens: &[Token],
+    values: LinkedList<Value>,
+) -> Result<Value, MakeFault>
+    ensures { (mark : Mark) → Makes production.Qualified mark tokens.now values result }
 {
-    let qualifiers: Pointer = parts.next()?;
-    parts.end()?;
+    let qualifiers: Pointer = one(alloc, values)?;
     match first(tokens) {
         Some(TokenKind::Keyword(Keyword::Const)) => Ok(Value::Qualifiers(Pointer {
             is_const: true,
@@ -183,23 +202,50 @@ fn worded(words: IntegerWords, kind: Option<&TokenKind>) -> Result<Value, MakeFa
     Ok(Value::Words(IntegerWords { sign, length }))
 }
 
-pub fn first_word(tokens: &[Token], parts: Parts) -> Result<Value, MakeFault>
-    ensures made { (word : Word) (mark : Mark) → Makes (production.FirstWord word) mark tokens.now parts.values result }
-    ensures sure { IfErr result (λ e. e ≡ fault.Parts) }
+pub fn first_word(tokens: &[Token], values: LinkedList<Value>) -> Result<Value, MakeFault>
+    ensures { (word : Word) (mark : Mark) → Makes (production.FirstWord word) mark tokens.now values result }
 {
-    let none = IntegerWords {
+    let none_yet = IntegerWords {
         sign: None,
         length: None,
     };
-    parts.end()?;
-    worded(none, first(tokens))
+    none(values)?;
+    worded(none_yet, first(tokens))
 }
 
-pub fn next_word(tokens: &[Token], mut parts: Parts) -> Result<Value, MakeFault>
-    ensures made { (all : Words) (word : Word) (mark : Mark) → Makes (production.NextWord all word) mark tokens.now parts.values result }
-    ensures sure { IfErr result (λ e. e ≡ fault.Parts) }
+pub fn next_word(
+    alloc: Global,
+    tokens: &[Token],
+    values: LinkedList<Value>,
+) -> Result<Value, MakeFault>
+    ensures { (all : Words) (word : Word) (mark : Mark) → Makes (production.NextWord all word) mark tokens.now values result }
 {
-    let words = parts.next()?;
-    parts.end()?;
+    let words = one(alloc, values)?;
     worded(words, last(tokens))
+}
+
+/// Drops an operand without an operator.
+fn refuse(operand: Box<Expr>) -> Result<Value, MakeFault>
+    ensures { result ≡ Err fault.Parts }
+{
+    drop(operand);
+    Err(MakeFault::Parts)
+}
+
+pub fn prefix(
+    alloc: Global,
+    mark: Mark,
+    tokens: &[Token],
+    values: LinkedList<Value>,
+) -> Result<Value, MakeFault>
+    ensures { Makes production.Prefix mark tokens.now values result }
+{
+    let operand = one(alloc, values)?;
+    match prefix_operator(tokens) {
+        Some(operator) => Ok(Value::Expr(Expr {
+            mark,
+            kind: ExprKind::Prefix(operator, operand),
+        })),
+        None => refuse(operand),
+    }
 }

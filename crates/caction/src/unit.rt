@@ -1,115 +1,104 @@
 //! Units.
-#![tactic(auto, unfolding(crate::specs::Make::table, cparts::specs::Parts::pick))]
+#![tactic(auto, unfolding(crate::specs::Make::table))]
 
-ghost use Rattle.std.specs.Prelude.{IfOk, List};
+ghost use Rattle.std.specs.Prelude.{◌≡◌, IfOk, List};
 ghost use Rattle.csyn.specs.declared.mark.Mark.{Mark};
 ghost use Rattle.csyn.specs.declared.token.Token.{Token};
+ghost use Rattle.csyn.specs.Bare.{at_null, bare_init_declarator, bare_init_declarators, bare_pointers, bare_unit_kind};
+ghost use Rattle.csyn.specs.declared.unit.UnitKind.TheVariants as unit_of;
+ghost use Rattle.cparts.specs.Value.{bare_rest};
 ghost use Rattle.cgrammar.specs.declared.production.Production.TheVariants as production;
 ghost use Rattle.caction.specs.Make.{Makes};
-ghost use Rattle.std.specs.Prelude.{◌≡◌};
-ghost use Rattle.csyn.specs.Bare.{bare_pointers, bare_unit_kind};
-ghost use Rattle.cparts.specs.Value.{bare_rest};
 ghost use Rattle.caction.specs.Make as specs;
-ghost use Rattle.std.specs.Prelude.{IfErr};
-ghost use Rattle.cparts.specs.declared.fault.MakeFault.TheVariants as fault;
+ghost use Rattle.caction.specs.Forms as forms;
 
-use cparts::{ExternalRest, MakeFault, ObjectRest, Parts, Value};
+use cparts::{ExternalRest, MakeFault, ObjectRest, Value, boxed_two, four, one, three, two};
 use csyn::{
-    CType, Declarator, Head, InitDeclarator, InitDeclarators, Mark, Members, Object, Pointers,
+    Declarator, Head, InitDeclarator, InitDeclarators, Mark, Members, Object, Pointers, Specifiers,
     Text, Unit, UnitKind,
 };
 use std::alloc::{AllocError, Global};
+use std::collections::LinkedList;
 
-pub fn struct_unit(alloc: Global, mark: Mark, mut parts: Parts) -> Result<Value, MakeFault>
-    ensures { (tokens : List Token) → Makes production.StructUnit mark tokens parts.values result }
+/// A unit, or a part of one.
+#[derive(Clone, Copy)]
+pub enum Definition {
+    StructUnit,
+    RegisterUnit,
+    ObjectRest,
+    FunctionRest,
+    FunctionBody,
+}
+
+/// What is made of the parts of a unit.
+pub fn make_definition(
+    alloc: Global,
+    mark: Mark,
+    form: Definition,
+    values: LinkedList<Value>,
+) -> Result<Value, MakeFault>
+    ensures { (tokens : List Token) → Makes (forms.definition form) mark tokens values result }
 {
-    let tag = parts.next()?;
-    let first = parts.next()?;
-    let rest = parts.next()?;
-    parts.end()?;
-    Ok(Value::Unit(Unit {
-        mark,
-        kind: UnitKind::Struct(
-            tag,
-            Members::More(Box::new(alloc, first)?, Box::new(alloc, rest)?),
-        ),
+    match form {
+        Definition::StructUnit => {
+            let (tag, first, rest) = three(alloc, values)?;
+            let kind = UnitKind::Struct(tag, Members::More(first, rest));
+            Ok(Value::Unit(Unit { mark, kind }))
+        }
+        Definition::RegisterUnit => {
+            let () = one(alloc, values)?;
+            Ok(Value::Unit(Unit {
+                mark,
+                kind: UnitKind::Register,
+            }))
+        }
+        Definition::ObjectRest => {
+            let (lengths, location, init, others) = four(alloc, values)?;
+            Ok(Value::ExternalRest(ExternalRest::Object(ObjectRest {
+                lengths,
+                location,
+                init,
+                others,
+            })))
+        }
+        Definition::FunctionRest => {
+            let (parameters, end) = two(alloc, values)?;
+            Ok(Value::ExternalRest(ExternalRest::Function(parameters, end)))
+        }
+        Definition::FunctionBody => {
+            let items = one(alloc, values)?;
+            Ok(Value::FunctionEnd(Some(items)))
+        }
+    }
+}
+
+/// Objects, the first and the others. On failure all are dropped.
+fn objects(
+    alloc: Global,
+    specifiers: Specifiers,
+    first: InitDeclarator,
+    others: InitDeclarators,
+) -> Result<UnitKind, AllocError>
+    ensures { IfOk result (λ kind. bare_unit_kind kind ≡ unit_of.Object
+        (specs.object_of specifiers (at_null (bare_init_declarator first)) (at_null (bare_init_declarators others)))) }
+{
+    let (first, others) = boxed_two(alloc, first, others)?;
+    let declarators = InitDeclarators::More(first, others);
+    Ok(UnitKind::Object(Object {
+        specifiers,
+        declarators,
     }))
-}
-
-pub fn register_unit(mark: Mark, mut parts: Parts) -> Result<Value, MakeFault>
-    ensures made { (tokens : List Token) → Makes production.RegisterUnit mark tokens parts.values result }
-    ensures sure { IfErr result (λ e. e ≡ fault.Parts) }
-{
-    let () = parts.next()?;
-    parts.end()?;
-    Ok(Value::Unit(Unit {
-        mark,
-        kind: UnitKind::Register,
-    }))
-}
-
-pub fn register_type(parts: Parts) -> Result<Value, MakeFault>
-    ensures words { (mark : Mark) (tokens : List Token) → Makes production.UnsignedInt mark tokens parts.values result }
-    ensures name { (mark : Mark) (tokens : List Token) → Makes production.RegisterUint32 mark tokens parts.values result }
-    ensures sure { IfErr result (λ e. e ≡ fault.Parts) }
-{
-    parts.end()?;
-    Ok(Value::RegisterType)
-}
-
-pub fn object_rest(mut parts: Parts) -> Result<Value, MakeFault>
-    ensures made { (mark : Mark) (tokens : List Token) → Makes production.ObjectRest mark tokens parts.values result }
-    ensures sure { IfErr result (λ e. e ≡ fault.Parts) }
-{
-    let lengths = parts.next()?;
-    let location = parts.next()?;
-    let init = parts.next()?;
-    let others = parts.next()?;
-    parts.end()?;
-    Ok(Value::ExternalRest(ExternalRest::Object(ObjectRest {
-        lengths,
-        location,
-        init,
-        others,
-    })))
-}
-
-pub fn function_rest(mut parts: Parts) -> Result<Value, MakeFault>
-    ensures made { (mark : Mark) (tokens : List Token) → Makes production.FunctionRest mark tokens parts.values result }
-    ensures sure { IfErr result (λ e. e ≡ fault.Parts) }
-{
-    let parameters = parts.next()?;
-    let end = parts.next()?;
-    parts.end()?;
-    Ok(Value::ExternalRest(ExternalRest::Function(parameters, end)))
-}
-
-pub fn prototype_end(parts: Parts) -> Result<Value, MakeFault>
-    ensures made { (mark : Mark) (tokens : List Token) → Makes production.PrototypeEnd mark tokens parts.values result }
-    ensures sure { IfErr result (λ e. e ≡ fault.Parts) }
-{
-    parts.end()?;
-    Ok(Value::FunctionEnd(None))
-}
-
-pub fn function_body(mut parts: Parts) -> Result<Value, MakeFault>
-    ensures made { (mark : Mark) (tokens : List Token) → Makes production.FunctionBody mark tokens parts.values result }
-    ensures sure { IfErr result (λ e. e ≡ fault.Parts) }
-{
-    let items = parts.next()?;
-    parts.end()?;
-    Ok(Value::FunctionEnd(Some(items)))
 }
 
 /// What a name is declared as, by what follows it.
 fn external_kind(
     alloc: Global,
-    ctype: CType,
+    specifiers: Specifiers,
     pointers: Pointers,
     name: Text,
     rest: ExternalRest,
 ) -> Result<UnitKind, AllocError>
-    ensures { IfOk result (λ kind. bare_unit_kind kind ≡ specs.external ctype (bare_pointers pointers) name (bare_rest rest)) }
+    ensures { IfOk result (λ kind. bare_unit_kind kind ≡ specs.external specifiers (bare_pointers pointers) name (bare_rest rest)) }
 {
     match rest {
         ExternalRest::Object(rest) => {
@@ -129,15 +118,11 @@ fn external_kind(
                 location,
                 init,
             };
-            let declarators = InitDeclarators::More(
-                Box::new(alloc, first)?,
-                Box::new(alloc, others)?,
-            );
-            Ok(UnitKind::Object(Object { ctype, declarators }))
+            objects(alloc, specifiers, first, others)
         }
         ExternalRest::Function(parameters, body) => {
             let head = Head {
-                ctype,
+                specifiers,
                 pointers,
                 name,
                 parameters,
@@ -150,14 +135,10 @@ fn external_kind(
     }
 }
 
-pub fn external(alloc: Global, mark: Mark, mut parts: Parts) -> Result<Value, MakeFault>
-    ensures { (tokens : List Token) → Makes production.External mark tokens parts.values result }
+pub fn external(alloc: Global, mark: Mark, values: LinkedList<Value>) -> Result<Value, MakeFault>
+    ensures { (tokens : List Token) → Makes production.External mark tokens values result }
 {
-    let ctype = parts.next()?;
-    let pointers = parts.next()?;
-    let name = parts.next()?;
-    let rest = parts.next()?;
-    parts.end()?;
-    let kind = external_kind(alloc, ctype, pointers, name, rest)?;
+    let (specifiers, pointers, name, rest) = four(alloc, values)?;
+    let kind = external_kind(alloc, specifiers, pointers, name, rest)?;
     Ok(Value::Unit(Unit { mark, kind }))
 }

@@ -7,6 +7,10 @@ use Rattle.csyn.specs.declared.punctuator.Punctuator.{Punctuator}
 use Rattle.csyn.specs.declared.punctuator.Punctuator.TheVariants as punctuator
 use Rattle.csyn.specs.declared.operator.BinaryOperator.{BinaryOperator}
 use Rattle.csyn.specs.declared.operator.BinaryOperator.TheVariants as operator
+use Rattle.csyn.specs.declared.operator.ComparisonOperator.{ComparisonOperator}
+use Rattle.csyn.specs.declared.operator.ComparisonOperator.TheVariants as comparison
+use Rattle.csyn.specs.declared.operator.LogicalOperator.{LogicalOperator}
+use Rattle.csyn.specs.declared.operator.LogicalOperator.TheVariants as logical
 use Rattle.cgrammar.specs.declared.terminal.Terminal.{Terminal}
 use Rattle.cgrammar.specs.declared.terminal.Terminal.TheVariants as terminal
 use Rattle.cgrammar.specs.declared.production.Word.{Word}
@@ -56,6 +60,10 @@ pub data Class : Type 0 where
   for_first : Class
   region_name : Class
   items : Class
+  label : Class
+  -- what stands in the braces of a switch, and what stands there behind a label
+  switch_items : Class
+  more_switch_items : Class
   units : Class
   unit : Class
   register_type : Class
@@ -138,6 +146,9 @@ class_number more_parameters = 38
 class_number source = 39
 class_number nothing = 40
 class_number some_qualifiers = 41
+class_number label = 42
+class_number switch_items = 43
+class_number more_switch_items = 44
 
 -- a tighter expression stands where a looser one may, but not the other way round
 unfoldable pub is_wider : Class → Class → Bool
@@ -153,7 +164,7 @@ is_wider _ _ = false
 unfoldable pub under : Class → Class → Bool
 under class wanted = nat_eq (class_number class) (class_number wanted) || is_wider class wanted
 
--- C99 6.5.5 to 6.5.14
+-- C99 6.5.5 to 6.5.7, 6.5.10 to 6.5.12
 unfoldable pub operator_level : BinaryOperator → ℕ
 operator_level operator.Multiply = 12
 operator_level operator.Divide = 12
@@ -162,17 +173,23 @@ operator_level operator.Add = 11
 operator_level operator.Subtract = 11
 operator_level operator.ShiftLeft = 10
 operator_level operator.ShiftRight = 10
-operator_level operator.Less = 9
-operator_level operator.Greater = 9
-operator_level operator.LessEqual = 9
-operator_level operator.GreaterEqual = 9
-operator_level operator.Equal = 8
-operator_level operator.NotEqual = 8
 operator_level operator.BitAnd = 7
 operator_level operator.BitXor = 6
 operator_level operator.BitOr = 5
-operator_level operator.And = 4
-operator_level operator.Or = 3
+
+-- C99 6.5.8 and 6.5.9
+unfoldable pub comparison_level : ComparisonOperator → ℕ
+comparison_level comparison.Less = 9
+comparison_level comparison.Greater = 9
+comparison_level comparison.LessEqual = 9
+comparison_level comparison.GreaterEqual = 9
+comparison_level comparison.Equal = 8
+comparison_level comparison.NotEqual = 8
+
+-- C99 6.5.13 and 6.5.14
+unfoldable pub logical_level : LogicalOperator → ℕ
+logical_level logical.And = 4
+logical_level logical.Or = 3
 
 unfoldable pub operator_token : BinaryOperator → Terminal
 operator_token operator.Multiply = terminal.Punctuator punctuator.Star
@@ -182,39 +199,23 @@ operator_token operator.Add = terminal.Punctuator punctuator.Plus
 operator_token operator.Subtract = terminal.Punctuator punctuator.Minus
 operator_token operator.ShiftLeft = terminal.Punctuator punctuator.ShiftLeft
 operator_token operator.ShiftRight = terminal.Punctuator punctuator.ShiftRight
-operator_token operator.Less = terminal.Punctuator punctuator.Less
-operator_token operator.Greater = terminal.Punctuator punctuator.Greater
-operator_token operator.LessEqual = terminal.Punctuator punctuator.LessEqual
-operator_token operator.GreaterEqual = terminal.Punctuator punctuator.GreaterEqual
-operator_token operator.Equal = terminal.Punctuator punctuator.Equal
-operator_token operator.NotEqual = terminal.Punctuator punctuator.NotEqual
 operator_token operator.BitAnd = terminal.Punctuator punctuator.Ampersand
 operator_token operator.BitXor = terminal.Punctuator punctuator.Caret
 operator_token operator.BitOr = terminal.Punctuator punctuator.Bar
-operator_token operator.And = terminal.Punctuator punctuator.LogicalAnd
-operator_token operator.Or = terminal.Punctuator punctuator.LogicalOr
 
--- the operators that an assignment may do on the way (C99 6.5.16.2); a comparison or a logical operator is none of them
-unfoldable pub assignment_class : BinaryOperator → Class
-assignment_class operator.Multiply = level 1
-assignment_class operator.Divide = level 1
-assignment_class operator.Remainder = level 1
-assignment_class operator.Add = level 1
-assignment_class operator.Subtract = level 1
-assignment_class operator.ShiftLeft = level 1
-assignment_class operator.ShiftRight = level 1
-assignment_class operator.Less = nothing
-assignment_class operator.Greater = nothing
-assignment_class operator.LessEqual = nothing
-assignment_class operator.GreaterEqual = nothing
-assignment_class operator.Equal = nothing
-assignment_class operator.NotEqual = nothing
-assignment_class operator.BitAnd = level 1
-assignment_class operator.BitXor = level 1
-assignment_class operator.BitOr = level 1
-assignment_class operator.And = nothing
-assignment_class operator.Or = nothing
+unfoldable pub comparison_token : ComparisonOperator → Terminal
+comparison_token comparison.Less = terminal.Punctuator punctuator.Less
+comparison_token comparison.Greater = terminal.Punctuator punctuator.Greater
+comparison_token comparison.LessEqual = terminal.Punctuator punctuator.LessEqual
+comparison_token comparison.GreaterEqual = terminal.Punctuator punctuator.GreaterEqual
+comparison_token comparison.Equal = terminal.Punctuator punctuator.Equal
+comparison_token comparison.NotEqual = terminal.Punctuator punctuator.NotEqual
 
+unfoldable pub logical_token : LogicalOperator → Terminal
+logical_token logical.And = terminal.Punctuator punctuator.LogicalAnd
+logical_token logical.Or = terminal.Punctuator punctuator.LogicalOr
+
+-- of an assignment that does an operator on the way (C99 6.5.16.2)
 unfoldable pub assignment_token : BinaryOperator → Terminal
 assignment_token operator.Multiply = terminal.Punctuator punctuator.MultiplyAssign
 assignment_token operator.Divide = terminal.Punctuator punctuator.DivideAssign
@@ -223,17 +224,9 @@ assignment_token operator.Add = terminal.Punctuator punctuator.AddAssign
 assignment_token operator.Subtract = terminal.Punctuator punctuator.SubtractAssign
 assignment_token operator.ShiftLeft = terminal.Punctuator punctuator.ShiftLeftAssign
 assignment_token operator.ShiftRight = terminal.Punctuator punctuator.ShiftRightAssign
-assignment_token operator.Less = terminal.Any
-assignment_token operator.Greater = terminal.Any
-assignment_token operator.LessEqual = terminal.Any
-assignment_token operator.GreaterEqual = terminal.Any
-assignment_token operator.Equal = terminal.Any
-assignment_token operator.NotEqual = terminal.Any
 assignment_token operator.BitAnd = terminal.Punctuator punctuator.AndAssign
 assignment_token operator.BitXor = terminal.Punctuator punctuator.XorAssign
 assignment_token operator.BitOr = terminal.Punctuator punctuator.OrAssign
-assignment_token operator.And = terminal.Any
-assignment_token operator.Or = terminal.Any
 
 unfoldable pub word_token : Word → Terminal
 word_token kind.Sign = terminal.Sign
@@ -298,9 +291,11 @@ home make.SizeofExpression = level 14
 home make.SizeofType = level 14
 home make.Cast = level 13
 home (make.Binary o) = level (operator_level o)
+home (make.Comparison o) = level (comparison_level o)
+home (make.Logical o) = level (logical_level o)
 home make.Conditional = level 2
 home make.Assign = level 1
-home (make.AssignWith o) = assignment_class o
+home (make.AssignWith _) = level 1
 home make.Comma = level 0
 home make.NoArguments = arguments
 home make.SomeArguments = arguments
@@ -355,6 +350,14 @@ home make.Do = statement
 home make.ForObject = for_first
 home make.ForExpression = for_first
 home make.For = statement
+home make.Switch = statement
+home make.NoSwitchItems = switch_items
+home make.FirstLabel = switch_items
+home make.EndSwitchItems = more_switch_items
+home make.NextLabel = more_switch_items
+home make.NextSwitchStatement = more_switch_items
+home make.CaseLabel = label
+home make.DefaultLabel = label
 home make.Break = statement
 home make.Continue = statement
 home make.Return = statement
@@ -404,6 +407,8 @@ template make.SizeofExpression = word keyword.Sizeof ∷ part (level 14) ∷ []
 template make.SizeofType = word keyword.Sizeof ∷ sign punctuator.LeftParenthesis ∷ part type_name ∷ sign punctuator.RightParenthesis ∷ []
 template make.Cast = sign punctuator.LeftParenthesis ∷ part type_name ∷ sign punctuator.RightParenthesis ∷ part (level 13) ∷ []
 template (make.Binary o) = part (level (operator_level o)) ∷ token (operator_token o) ∷ part (level (operator_level o + 1)) ∷ []
+template (make.Comparison o) = part (level (comparison_level o)) ∷ token (comparison_token o) ∷ part (level (comparison_level o + 1)) ∷ []
+template (make.Logical o) = part (level (logical_level o)) ∷ token (logical_token o) ∷ part (level (logical_level o + 1)) ∷ []
 template make.Conditional = part (level 3) ∷ sign punctuator.Question ∷ part (level 0) ∷ sign punctuator.Colon ∷ part (level 2) ∷ []
 template make.Assign = part (level 14) ∷ sign punctuator.Assign ∷ part (level 1) ∷ []
 template (make.AssignWith o) = part (level 14) ∷ token (assignment_token o) ∷ part (level 1) ∷ []
@@ -461,6 +466,14 @@ template make.Do = word keyword.Do ∷ part statement ∷ word keyword.While ∷
 template make.ForObject = part object ∷ []
 template make.ForExpression = part optional_expression ∷ sign punctuator.Semicolon ∷ []
 template make.For = word keyword.For ∷ sign punctuator.LeftParenthesis ∷ part for_first ∷ part optional_expression ∷ sign punctuator.Semicolon ∷ part optional_expression ∷ sign punctuator.RightParenthesis ∷ part statement ∷ []
+template make.Switch = word keyword.Switch ∷ sign punctuator.LeftParenthesis ∷ part (level 0) ∷ sign punctuator.RightParenthesis ∷ sign punctuator.LeftBrace ∷ part switch_items ∷ sign punctuator.RightBrace ∷ []
+template make.NoSwitchItems = []
+template make.FirstLabel = part label ∷ part more_switch_items ∷ []
+template make.EndSwitchItems = []
+template make.NextLabel = part label ∷ part more_switch_items ∷ []
+template make.NextSwitchStatement = part statement ∷ part more_switch_items ∷ []
+template make.CaseLabel = word keyword.Case ∷ part (level 0) ∷ sign punctuator.Colon ∷ []
+template make.DefaultLabel = word keyword.Default ∷ sign punctuator.Colon ∷ []
 template make.Break = word keyword.Break ∷ sign punctuator.Semicolon ∷ []
 template make.Continue = word keyword.Continue ∷ sign punctuator.Semicolon ∷ []
 template make.Return = word keyword.Return ∷ part optional_expression ∷ sign punctuator.Semicolon ∷ []
@@ -489,8 +502,8 @@ template make.EndUnits = []
 template make.NextUnit = part unit ∷ part units ∷ []
 template make.Source = part units ∷ token terminal.End ∷ []
 
--- The nodes of a tree are units, local objects, statements, initialisers in braces and expressions. Parentheses are none, nor is the
--- name of a function that is called.
+-- The nodes of a tree are units, local objects, statements, labels, initialisers in braces and expressions. Parentheses are none, nor is
+-- the name of a function that is called.
 unfoldable pub own_nodes : Production → ℕ
 own_nodes make.Identifier = 0
 own_nodes make.Name = 1
@@ -511,6 +524,8 @@ own_nodes make.SizeofExpression = 1
 own_nodes make.SizeofType = 1
 own_nodes make.Cast = 1
 own_nodes (make.Binary _) = 1
+own_nodes (make.Comparison _) = 1
+own_nodes (make.Logical _) = 1
 own_nodes make.Conditional = 1
 own_nodes make.Assign = 1
 own_nodes (make.AssignWith _) = 1
@@ -568,6 +583,14 @@ own_nodes make.Do = 1
 own_nodes make.ForObject = 0
 own_nodes make.ForExpression = 0
 own_nodes make.For = 1
+own_nodes make.Switch = 1
+own_nodes make.NoSwitchItems = 0
+own_nodes make.FirstLabel = 0
+own_nodes make.EndSwitchItems = 0
+own_nodes make.NextLabel = 0
+own_nodes make.NextSwitchStatement = 0
+own_nodes make.CaseLabel = 1
+own_nodes make.DefaultLabel = 1
 own_nodes make.Break = 1
 own_nodes make.Continue = 1
 own_nodes make.Return = 1

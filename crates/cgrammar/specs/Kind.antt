@@ -4,8 +4,8 @@ use Rattle.std.specs.Str.{bytes_eq}
 use Rattle.csyn.specs.declared.token.Token.{Token}
 use Rattle.csyn.specs.declared.token.TokenKind.{TokenKind}
 use Rattle.csyn.specs.declared.token.TokenKind.TheVariants as token
-use Rattle.csyn.specs.declared.ctype.StandardInteger.{StandardInteger}
-use Rattle.csyn.specs.declared.ctype.StandardInteger.TheVariants as standard
+use Rattle.csyn.specs.declared.specifiers.StandardInteger.{StandardInteger}
+use Rattle.csyn.specs.declared.specifiers.StandardInteger.TheVariants as standard
 use Rattle.cgrammar.specs.declared.kind.Kind.{Kind}
 use Rattle.cgrammar.specs.declared.kind.Kind.TheVariants as kind
 

@@ -1,5 +1,5 @@
 //! The productions of the grammar.
-use csyn::BinaryOperator;
+use csyn::{BinaryOperator, ComparisonOperator, LogicalOperator};
 
 /// A word of an integer type (C99 6.7.2): `signed` or `unsigned`, `char`, `short` or `long`, `int`.
 #[derive(Clone, Copy, Debug, PartialEq, Eq)]
@@ -68,6 +68,8 @@ pub enum Production {
     SizeofType,
     Cast,
     Binary(BinaryOperator),
+    Comparison(ComparisonOperator),
+    Logical(LogicalOperator),
     Conditional,
     Assign,
     AssignWith(BinaryOperator),
@@ -138,6 +140,15 @@ pub enum Production {
     ForObject,
     ForExpression,
     For,
+    Switch,
+    NoSwitchItems,
+    /// The label with which the braces of a `switch` begin, and what stands behind it.
+    FirstLabel,
+    EndSwitchItems,
+    NextLabel,
+    NextSwitchStatement,
+    CaseLabel,
+    DefaultLabel,
     Break,
     Continue,
     Return,
@@ -201,6 +212,8 @@ impl Production {
             | Production::TrailingComma
             | Production::EndInitDeclarators
             | Production::NoElse
+            | Production::NoSwitchItems
+            | Production::EndSwitchItems
             | Production::EndItems
             | Production::NoParameters
             | Production::EndParameters
@@ -242,6 +255,10 @@ impl Production {
             | Production::ExpressionStatement
             | Production::Else
             | Production::ForExpression
+            | Production::FirstLabel
+            | Production::NextLabel
+            | Production::NextSwitchStatement
+            | Production::DefaultLabel
             | Production::Break
             | Production::Continue
             | Production::NextObject
@@ -254,6 +271,8 @@ impl Production {
             | Production::Member
             | Production::Arrow
             | Production::Binary(_)
+            | Production::Comparison(_)
+            | Production::Logical(_)
             | Production::Assign
             | Production::AssignWith(_)
             | Production::Comma
@@ -263,6 +282,7 @@ impl Production {
             | Production::InitDeclarator
             | Production::NextInitDeclarator
             | Production::Block
+            | Production::CaseLabel
             | Production::Return
             | Production::FunctionBody
             | Production::NextParameter
@@ -285,7 +305,7 @@ impl Production {
             | Production::ObjectRest
             | Production::ArrayParameter => 5,
             Production::If => 6,
-            Production::Do | Production::Region | Production::StructUnit => 7,
+            Production::Do | Production::Switch | Production::Region | Production::StructUnit => 7,
             Production::For => 8,
             Production::Location => 9,
         }
@@ -317,6 +337,9 @@ impl Production {
             | Production::TrailingComma
             | Production::EndInitDeclarators
             | Production::NoElse
+            | Production::NoSwitchItems
+            | Production::EndSwitchItems
+            | Production::DefaultLabel
             | Production::Break
             | Production::Continue
             | Production::RegionName
@@ -354,6 +377,7 @@ impl Production {
             | Production::Else
             | Production::ForObject
             | Production::ForExpression
+            | Production::CaseLabel
             | Production::Return
             | Production::RegisterUnit
             | Production::FunctionBody
@@ -365,6 +389,8 @@ impl Production {
             | Production::Arrow
             | Production::Cast
             | Production::Binary(_)
+            | Production::Comparison(_)
+            | Production::Logical(_)
             | Production::Assign
             | Production::AssignWith(_)
             | Production::Comma
@@ -381,6 +407,10 @@ impl Production {
             | Production::NextInitDeclarator
             | Production::While
             | Production::Do
+            | Production::Switch
+            | Production::FirstLabel
+            | Production::NextLabel
+            | Production::NextSwitchStatement
             | Production::Region
             | Production::NextObject
             | Production::NextStatement
@@ -426,6 +456,8 @@ impl Production {
             | Production::SizeofType
             | Production::Cast
             | Production::Binary(_)
+            | Production::Comparison(_)
+            | Production::Logical(_)
             | Production::Conditional
             | Production::Assign
             | Production::AssignWith(_)
@@ -438,6 +470,9 @@ impl Production {
             | Production::While
             | Production::Do
             | Production::For
+            | Production::Switch
+            | Production::CaseLabel
+            | Production::DefaultLabel
             | Production::Break
             | Production::Continue
             | Production::Return
@@ -492,6 +527,11 @@ impl Production {
             | Production::Else
             | Production::ForObject
             | Production::ForExpression
+            | Production::NoSwitchItems
+            | Production::FirstLabel
+            | Production::EndSwitchItems
+            | Production::NextLabel
+            | Production::NextSwitchStatement
             | Production::RegionName
             | Production::EndItems
             | Production::NextObject
@@ -515,8 +555,8 @@ impl Production {
         }
     }
 
-    /// Whether it makes a node of the tree: a unit, a local object, a statement, an initialiser in braces or an expression.
-    /// Parentheses make none, nor does the name of a function that is called.
+    /// Whether it makes a node of the tree: a unit, a local object, a statement, a label, an initialiser in braces or an
+    /// expression. Parentheses make none, nor does the name of a function that is called.
     pub fn is_node(self) -> bool
         ensures { result ≡ is_node self }
     {

@@ -72,6 +72,8 @@ fn productions(rt: HostRuntime) {
         (Production::Parenthesised, 3, 1, false),
         (Production::If, 6, 3, true),
         (Production::For, 8, 4, true),
+        (Production::Switch, 7, 2, true),
+        (Production::CaseLabel, 3, 1, true),
     ] {
         assert_eq!(rt; production.parts(), parts, "{production:?}");
         assert_eq!(rt; production.children(), children, "{production:?}");

@@ -107,6 +107,18 @@ fn longest(rt: HostRuntime) -> Result<(), Fail> {
                 "int inty _Bool __region __attribute__",
                 "^1:1 Int 1:5 inty 1:10 Boolean 1:16 Region 1:25 Attribute 1:38 end",
             ),
+            (
+                "auto break case char const continue default do double else enum extern float for goto if",
+                "^1:1 Auto 1:6 Break 1:12 Case 1:17 Char 1:22 Const 1:28 Continue 1:37 Default 1:45 Do \
+                1:48 Double 1:55 Else 1:60 Enum 1:65 Extern 1:72 Float 1:78 For 1:82 Goto 1:87 If 1:89 end",
+            ),
+            (
+                "inline long register restrict return short signed sizeof static struct switch typedef union \
+                unsigned void volatile while _Complex _Imaginary",
+                "^1:1 Inline 1:8 Long 1:13 Register 1:22 Restrict 1:31 Return 1:38 Short 1:44 Signed 1:51 Sizeof \
+                1:58 Static 1:65 Struct 1:72 Switch 1:79 Typedef 1:87 Union 1:93 Unsigned 1:102 Void \
+                1:107 Volatile 1:116 While 1:122 Complex 1:131 Imaginary 1:141 end",
+            ),
             ("a1_B goto_", "^1:1 a1_B 1:6 goto_ 1:11 end"),
         ],
     )

@@ -3,7 +3,7 @@ use Rattle.std.proofs.Common.{◌≡◌, ◌+◌, ℕ, Option, Some, None, ap, r
 use Rattle.std.specs.Prelude.{max}
 use Rattle.std.specs.Global.{Box}
 use Rattle.csyn.specs.declared.expression.Expr.{Expr}
-use Rattle.csyn.specs.declared.expression.ExprKind.{ExprKind, Name, Number, Character, Index', CallFunction, Call', Member', Arrow', Postfix', Prefix', SizeofExpression', SizeofType, Cast', Binary', Conditional', Assign', AssignWith', Comma'}
+use Rattle.csyn.specs.declared.expression.ExprKind.{ExprKind, Name, Number, Character, Index', CallFunction, Call', Member', Arrow', Postfix', Prefix', SizeofExpression', SizeofType, Cast', Binary', Comparison', Logical', Conditional', Assign', AssignWith', Comma'}
 use Rattle.csyn.specs.declared.expression.Exprs as exprs
 use Rattle.csyn.specs.declared.declaration.Declarators as declarators
 use Rattle.csyn.specs.declared.declaration.Members as members
@@ -16,8 +16,11 @@ use Rattle.csyn.specs.declared.declaration.Parameters.{Parameters}
 use Rattle.csyn.specs.declared.declaration.Parameters.TheVariants as parameters
 use Rattle.csyn.specs.declared.statement.ForFirst.{ForFirst}
 use Rattle.csyn.specs.declared.statement.ForFirst.TheVariants as first
-use Rattle.csyn.specs.declared.statement.StmtKind.{StmtKind, Block, Expression, If', IfElse', While', Do', For', Break, Continue, Return, Region}
+use Rattle.csyn.specs.declared.statement.StmtKind.{StmtKind, Block, Expression, If', IfElse', While', Do', For', Switch, Break, Continue, Return, Region}
 use Rattle.csyn.specs.declared.statement.Items as items
+use Rattle.csyn.specs.declared.statement.LabelKind.{LabelKind}
+use Rattle.csyn.specs.declared.statement.LabelKind.TheVariants as label
+use Rattle.csyn.specs.declared.statement.SwitchItems as switch
 use Rattle.csyn.specs.declared.unit.UnitKind.{UnitKind}
 use Rattle.csyn.specs.declared.unit.UnitKind.TheVariants as kind
 use Rattle.csyn.specs.declared.unit.Units as units
@@ -46,6 +49,8 @@ mutual
   kind-bare (SizeofType _) = refl
   kind-bare (Cast' _ _ _ a) = one-more (kind-bare a)
   kind-bare (Binary' _ _ _ a _ _ b) = one-more (both (kind-bare a) (kind-bare b))
+  kind-bare (Comparison' _ _ _ a _ _ b) = one-more (both (kind-bare a) (kind-bare b))
+  kind-bare (Logical' _ _ _ a _ _ b) = one-more (both (kind-bare a) (kind-bare b))
   kind-bare (Conditional' _ _ c _ _ a _ _ b) = one-more (both (kind-bare c) (both (kind-bare a) (kind-bare b)))
   kind-bare (Assign' _ _ a _ _ b) = one-more (both (kind-bare a) (kind-bare b))
   kind-bare (AssignWith' _ _ _ a _ _ b) = one-more (both (kind-bare a) (kind-bare b))
@@ -101,6 +106,10 @@ first-bare : (f : ForFirst) → levels.for_first_levels (bare.bare_for_first f) 
 first-bare (first.Object o) = local-bare o.value
 first-bare (first.Expression e) = option-bare e
 
+label-bare : (k : LabelKind) → levels.label_kind_levels (bare.bare_label_kind k) ≡ levels.label_kind_levels k
+label-bare (label.Case e) = one-more (kind-bare (e.value).kind)
+label-bare label.Default = refl
+
 mutual
   stmt-bare : (s : StmtKind) → levels.stmt_kind_levels (bare.bare_stmt_kind s) ≡ levels.stmt_kind_levels s
   stmt-bare (Block all) = one-more (items-bare all)
@@ -110,6 +119,7 @@ mutual
   stmt-bare (While' c _ _ s) = one-more (both (kind-bare (c.value).kind) (stmt-bare s))
   stmt-bare (Do' _ _ s c) = one-more (both (stmt-bare s) (kind-bare (c.value).kind))
   stmt-bare (For' a b c _ _ s) = one-more (both (first-bare a) (both (option-bare b) (both (option-bare c) (stmt-bare s))))
+  stmt-bare (Switch e all) = one-more (both (kind-bare (e.value).kind) (switch-bare all))
   stmt-bare Break = refl
   stmt-bare Continue = refl
   stmt-bare (Return e) = one-more (option-bare e)
@@ -119,6 +129,11 @@ mutual
   items-bare items.End = refl
   items-bare (items.Object' o _ rest) = both (local-bare o.value) (items-bare rest)
   items-bare (items.Statement' _ _ s _ rest) = both (stmt-bare s) (items-bare rest)
+
+  switch-bare : (i : switch.SwitchItems) → levels.switch_items_levels (bare.bare_switch_items i) ≡ levels.switch_items_levels i
+  switch-bare switch.End = refl
+  switch-bare (switch.Label' l _ rest) = both (label-bare l.kind) (switch-bare rest)
+  switch-bare (switch.Statement' _ _ s _ rest) = both (stmt-bare s) (switch-bare rest)
 
 unit-bare : (k : UnitKind) → levels.unit_kind_levels (bare.bare_unit_kind k) ≡ levels.unit_kind_levels k
 unit-bare (kind.Struct _ all) = one-more (members-bare all)

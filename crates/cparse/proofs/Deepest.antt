@@ -5,13 +5,17 @@ use Rattle.std.specs.Prelude.{slice_get}
 use Rattle.csyn.specs.declared.token.Token.{Token}
 use Rattle.csyn.specs.declared.operator.BinaryOperator.TheVariants as operator
 use Rattle.csyn.specs.declared.operator.BinaryOperator.{BinaryOperator}
+use Rattle.csyn.specs.declared.operator.ComparisonOperator.{ComparisonOperator}
+use Rattle.csyn.specs.declared.operator.ComparisonOperator.TheVariants as comparison
+use Rattle.csyn.specs.declared.operator.LogicalOperator.{LogicalOperator}
+use Rattle.csyn.specs.declared.operator.LogicalOperator.TheVariants as logical
 use Rattle.cgrammar.specs.declared.production.Production.{Production}
 use Rattle.cgrammar.specs.declared.production.Production.TheVariants as make
 use Rattle.cgrammar.specs.declared.production.Word.{Word}
 use Rattle.cgrammar.specs.declared.production.Word.TheVariants as word
 use Rattle.cgrammar.specs.declared.production.Words.{Words}
 use Rattle.cgrammar.specs.declared.production.Words.TheVariants as words
-use Rattle.cgrammar.specs.Grammar.{source, home, under, is_wider, class_number, words_number, operator_level, assignment_class, alone, joined, template, own_nodes}
+use Rattle.cgrammar.specs.Grammar.{source, home, under, is_wider, class_number, words_number, operator_level, comparison_level, logical_level, alone, joined, template, own_nodes}
 use Rattle.cgrammar.specs.Text.{Written, leaf, node, Forest, none, more, spell, spells, IsProper, Match, IsText}
 use Rattle.cparse.specs.Nodes.{deep, deep_of}
 use Rattle.cparse.proofs.Ascending.{Between, deep-between}
@@ -21,13 +25,18 @@ false-true h = absurd (cc)
 
 of-binary : (o : BinaryOperator) → under (home (make.Binary o)) source ≡ true → make.Binary o ≡ make.Source
 unfolding home under is_wider class_number operator_level
-of-binary operator.Or h = false-true h
+of-binary operator.Add h = false-true h
 of-binary _ h = false-true h
 
-of-assignment : (o : BinaryOperator) → under (home (make.AssignWith o)) source ≡ true → make.AssignWith o ≡ make.Source
-unfolding home under is_wider class_number assignment_class
-of-assignment operator.Or h = false-true h
-of-assignment _ h = false-true h
+of-comparison : (o : ComparisonOperator) → under (home (make.Comparison o)) source ≡ true → make.Comparison o ≡ make.Source
+unfolding home under is_wider class_number comparison_level
+of-comparison comparison.Less h = false-true h
+of-comparison _ h = false-true h
+
+of-logical : (o : LogicalOperator) → under (home (make.Logical o)) source ≡ true → make.Logical o ≡ make.Source
+unfolding home under is_wider class_number logical_level
+of-logical logical.And h = false-true h
+of-logical logical.Or h = false-true h
 
 of-word : (w : Word) → under (home (make.FirstWord w)) source ≡ true → make.FirstWord w ≡ make.Source
 unfolding home under is_wider class_number words_number alone
@@ -50,7 +59,8 @@ source-only : (p : Production) → under (home p) source ≡ true → p ≡ make
 unfolding home under is_wider class_number
 source-only make.Source h = refl
 source-only (make.Binary o) h = of-binary o h
-source-only (make.AssignWith o) h = of-assignment o h
+source-only (make.Comparison o) h = of-comparison o h
+source-only (make.Logical o) h = of-logical o h
 source-only (make.FirstWord w) h = of-word w h
 source-only (make.NextWord a w) h = of-words a w h
 source-only _ h = false-true h

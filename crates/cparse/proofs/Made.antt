@@ -7,12 +7,12 @@ use Rattle.csyn.specs.declared.token.TokenKind.{TokenKind}
 use Rattle.csyn.specs.declared.token.TokenKind.TheVariants as token
 use Rattle.csyn.specs.declared.keyword.Keyword.TheVariants as keyword
 use Rattle.csyn.specs.declared.punctuator.Punctuator.TheVariants as punctuator
-use Rattle.csyn.specs.declared.operator.BinaryOperator.{BinaryOperator}
-use Rattle.csyn.specs.declared.operator.BinaryOperator.TheVariants as operator
-use Rattle.csyn.specs.declared.ctype.StandardInteger.TheVariants as integer
-use Rattle.csyn.specs.declared.ctype.CType.{CType}
-use Rattle.csyn.specs.declared.ctype.IntegerWords.{IntegerWords}
-use Rattle.csyn.specs.declared.ctype.Pointer.{Pointer}
+use Rattle.csyn.specs.declared.specifiers.StandardInteger.TheVariants as integer
+use Rattle.csyn.specs.declared.specifiers.Specifiers.{Specifiers}
+use Rattle.csyn.specs.declared.specifiers.IntegerWords.{IntegerWords}
+use Rattle.csyn.specs.declared.specifiers.Pointer.{Pointer}
+use Rattle.std.specs.Global.{Box}
+use Rattle.csyn.specs.Bare.{at_null}
 use Rattle.csyn.specs.declared.expression.Expr.{Expr}
 use Rattle.cgrammar.specs.declared.terminal.Terminal.{Terminal}
 use Rattle.cgrammar.specs.declared.terminal.Terminal.TheVariants as terminal
@@ -27,12 +27,13 @@ use Rattle.cgrammar.specs.declared.kind.Kind.{Kind}
 use Rattle.cgrammar.specs.declared.kind.Kind.TheVariants as kind
 use Rattle.cgrammar.specs.Kind.{kind_of, token_kind, name_kind}
 use Rattle.cgrammar.specs.Terminal.{accepts, keyword_number, punctuator_number}
-use Rattle.cgrammar.specs.Grammar.{home, template, assignment_class, joined, before, alone, word_token}
+use Rattle.cgrammar.specs.Grammar.{home, template, joined, before, alone, word_token}
 use Rattle.cparts.specs.declared.value.Value.{Value}
 use Rattle.cparts.specs.declared.value.Value.TheVariants as value
-use Rattle.cparts.specs.Parts.{pick}
+use Rattle.cparts.specs.Parts as taken
+use Rattle.cparts.specs.Parts.{pick, perhaps, one, two, three, four}
 use Rattle.caction.specs.Make.{table, identifier, literal, number, character, prefixed, standard, specified, qualified, worded, no_words}
-use Rattle.cparse.proofs.Shape.{text, expr, base, ctype, words, qualifiers, shape, shapes, Fits, end, and, Made, made, unused, is_base, is_ctype, is_declarator, is_declarators, is_expr, is_exprs, is_external_rest, is_for_first, is_function_end, is_init, is_init_declarator, is_init_declarators, is_inits, is_items, is_member, is_members, is_object, is_optional_expr, is_optional_init, is_optional_stmt, is_parameter, is_parameter_list, is_parameters, is_pointers, is_qualifiers, is_register_type, is_stmt, is_text, is_type_name, is_unit, is_units, is_words}
+use Rattle.cparse.proofs.Shape.{text, expr, base, specifiers, words, qualifiers, shape, shapes, Fits, end, and, Made, made, unused, is_base, is_specifiers, is_declarator, is_declarators, is_expr, is_exprs, is_external_rest, is_for_first, is_function_end, is_init, is_init_declarator, is_init_declarators, is_inits, is_items, is_label, is_member, is_members, is_object, is_optional_expr, is_optional_init, is_optional_stmt, is_parameter, is_parameter_list, is_parameters, is_pointers, is_qualifiers, is_register_type, is_stmt, is_switch_items, is_text, is_type_name, is_unit, is_units, is_words}
 
 -- a token that the terminal accepts
 pub record Accepted (wanted : Terminal) (o : Option Token) : Type 0 where
@@ -107,7 +108,7 @@ lettered mark (token.Identifier n) h = absurd (name-kinds (λ k. accepts termina
 lettered mark (token.Standard integer.Uint32) h = absurd (cc)
 lettered mark _ h = absurd (cc)
 
-prefixes : (mark : Mark) (e : Expr) → (k : TokenKind) → accepts terminal.Prefix (token_kind k) ≡ true → Made expr (prefixed mark (Some k) e)
+prefixes : (mark : Mark) (e : Box Expr) → (k : TokenKind) → accepts terminal.Prefix (token_kind k) ≡ true → Made expr (prefixed mark (Some k) e)
 unfolding accepts keyword_number punctuator_number
 prefixes mark e (token.Punctuator punctuator.Plus) h = made (is_expr _)
 prefixes mark e (token.Punctuator punctuator.Minus) h = made (is_expr _)
@@ -119,12 +120,12 @@ prefixes mark e (token.Identifier n) h = absurd (name-kinds (λ k. accepts termi
 prefixes mark e (token.Standard integer.Uint32) h = absurd (cc)
 prefixes mark e _ h = absurd (cc)
 
-specifies : (t : CType) → (k : TokenKind) → accepts terminal.Specifier (token_kind k) ≡ true → Made ctype (option_map (λ s. value.CType s) (specified t (Some k)))
+specifies : (t : Specifiers) → (k : TokenKind) → accepts terminal.Specifier (token_kind k) ≡ true → Made specifiers (option_map (λ s. value.Specifiers s) (specified t (Some k)))
 unfolding accepts keyword_number punctuator_number
-specifies t (token.Keyword keyword.Static) h = made (is_ctype _)
-specifies t (token.Keyword keyword.Inline) h = made (is_ctype _)
-specifies t (token.Keyword keyword.Const) h = made (is_ctype _)
-specifies t (token.Keyword keyword.Volatile) h = made (is_ctype _)
+specifies t (token.Keyword keyword.Static) h = made (is_specifiers _)
+specifies t (token.Keyword keyword.Inline) h = made (is_specifiers _)
+specifies t (token.Keyword keyword.Const) h = made (is_specifiers _)
+specifies t (token.Keyword keyword.Volatile) h = made (is_specifiers _)
 specifies t (token.Identifier n) h = absurd (name-kinds (λ k. accepts terminal.Specifier k ≡ true → ⊥) no no no n h)
 specifies t (token.Standard integer.Uint32) h = absurd (cc)
 specifies t _ h = absurd (cc)
@@ -183,7 +184,7 @@ one-more word.Int = ints
 -- the words that go together, with the last of them
 next-word : (all : Words) (w : Word) (mark : Mark) (tokens : List Token) {vs : List Value} → Fits (shape (before all w) ∷ []) vs → Ends (word_token w) tokens
     → Made (shape (joined all w)) (table (production.NextWord all w) mark tokens vs)
-unfolding shape before joined table pick
+unfolding shape before joined table pick perhaps
 next-word every.SignChar word.Char mark tokens (and (is_words x) end) own = by-token (word_token word.Char) (λ k. Made words (option_map (λ v. value.Words v) (worded x k))) _ own (one-more word.Char x)
 next-word every.SignLength word.Length mark tokens (and (is_words x) end) own = by-token (word_token word.Length) (λ k. Made words (option_map (λ v. value.Words v) (worded x k))) _ own (one-more word.Length x)
 next-word every.SignInt word.Int mark tokens (and (is_words x) end) own = by-token (word_token word.Int) (λ k. Made words (option_map (λ v. value.Words v) (worded x k))) _ own (one-more word.Int x)
@@ -197,22 +198,10 @@ next-word every.SignLengthInt word.Length mark tokens (and (is_words x) end) own
 next-word every.SignLengthInt word.Sign mark tokens (and (is_words x) end) own = by-token (word_token word.Sign) (λ k. Made words (option_map (λ v. value.Words v) (worded x k))) _ own (one-more word.Sign x)
 next-word _ _ mark tokens fits own = unused
 
-assigns : (o : BinaryOperator) (e : Expr) → Made (shape (assignment_class o)) (Some (value.Expr e))
-unfolding shape assignment_class
-assigns operator.Less e = unused
-assigns operator.Greater e = unused
-assigns operator.LessEqual e = unused
-assigns operator.GreaterEqual e = unused
-assigns operator.Equal e = unused
-assigns operator.NotEqual e = unused
-assigns operator.And e = unused
-assigns operator.Or e = unused
-assigns _ e = made (is_expr e)
-
 -- of parts of their kinds and tokens that are accepted a production makes a value of its kind
 pub makes : (p : Production) (mark : Mark) (tokens : List Token) {vs : List Value} → Fits (shapes (template p)) vs → OwnTokens p tokens
     → Made (shape (home p)) (table p mark tokens vs)
-unfolding shape shapes template home alone table pick OwnTokens
+unfolding shape shapes template home alone table pick perhaps one two three four taken.none OwnTokens
 makes production.Identifier mark tokens end own = by-token terminal.Name (λ k. Made text (identifier k)) _ own named
 makes production.Name mark tokens (and (is_text a) end) own = made (is_expr _)
 makes production.Number mark tokens end own = by-token terminal.Number (λ k. Made expr (number mark k)) _ own (numbered mark)
@@ -227,14 +216,16 @@ makes production.PostIncrement mark tokens (and (is_expr a) end) own = made (is_
 makes production.PostDecrement mark tokens (and (is_expr a) end) own = made (is_expr _)
 makes production.PreIncrement mark tokens (and (is_expr a) end) own = made (is_expr _)
 makes production.PreDecrement mark tokens (and (is_expr a) end) own = made (is_expr _)
-makes production.Prefix mark tokens (and (is_expr a) end) own = by-token terminal.Prefix (λ k. Made expr (prefixed mark k a)) _ own (prefixes mark a)
+makes production.Prefix mark tokens (and (is_expr a) end) own = by-token terminal.Prefix (λ k. Made expr (prefixed mark k (at_null a))) _ own (prefixes mark (at_null a))
 makes production.SizeofExpression mark tokens (and (is_expr a) end) own = made (is_expr _)
 makes production.SizeofType mark tokens (and (is_type_name a) end) own = made (is_expr _)
 makes production.Cast mark tokens (and (is_type_name a) (and (is_expr b) end)) own = made (is_expr _)
 makes (production.Binary o) mark tokens (and (is_expr a) (and (is_expr b) end)) own = made (is_expr _)
+makes (production.Comparison o) mark tokens (and (is_expr a) (and (is_expr b) end)) own = made (is_expr _)
+makes (production.Logical o) mark tokens (and (is_expr a) (and (is_expr b) end)) own = made (is_expr _)
 makes production.Conditional mark tokens (and (is_expr a) (and (is_expr b) (and (is_expr c) end))) own = made (is_expr _)
 makes production.Assign mark tokens (and (is_expr a) (and (is_expr b) end)) own = made (is_expr _)
-makes (production.AssignWith o) mark tokens (and (is_expr a) (and (is_expr b) end)) own = assigns o _
+makes (production.AssignWith o) mark tokens (and (is_expr a) (and (is_expr b) end)) own = made (is_expr _)
 makes production.Comma mark tokens (and (is_expr a) (and (is_expr b) end)) own = made (is_expr _)
 makes production.NoArguments mark tokens end own = made (is_exprs _)
 makes production.SomeArguments mark tokens (and (is_expr a) (and (is_exprs b) end)) own = made (is_exprs _)
@@ -242,9 +233,9 @@ makes production.EndArguments mark tokens end own = made (is_exprs _)
 makes production.NextArgument mark tokens (and (is_expr a) (and (is_exprs b) end)) own = made (is_exprs _)
 makes production.NoExpression mark tokens end own = made (is_optional_expr _)
 makes production.SomeExpression mark tokens (and (is_expr a) end) own = made (is_optional_expr _)
-makes production.TypeName mark tokens (and (is_ctype a) (and (is_pointers b) end)) own = made (is_type_name _)
-makes production.Specified mark tokens (and (is_ctype a) end) own = by-token terminal.Specifier (λ k. Made ctype (option_map (λ s. value.CType s) (specified a k))) _ own (specifies a)
-makes production.Based mark tokens (and (is_base a) (and (is_qualifiers b) end)) own = made (is_ctype _)
+makes production.TypeName mark tokens (and (is_specifiers a) (and (is_pointers b) end)) own = made (is_type_name _)
+makes production.Specified mark tokens (and (is_specifiers a) end) own = by-token terminal.Specifier (λ k. Made specifiers (option_map (λ s. value.Specifiers s) (specified a k))) _ own (specifies a)
+makes production.Based mark tokens (and (is_base a) (and (is_qualifiers b) end)) own = made (is_specifiers _)
 makes production.NoQualifiers mark tokens end own = made (is_qualifiers _)
 makes production.Qualified mark tokens (and (is_qualifiers a) end) own = by-token terminal.Qualifier (λ k. Made qualifiers (option_map (λ r. value.Qualifiers r) (qualified a k))) _ own (qualifies a)
 makes production.VoidBase mark tokens end own = made (is_base _)
@@ -262,7 +253,7 @@ makes production.Length mark tokens (and (is_expr a) (and (is_exprs b) end)) own
 makes production.Declarator mark tokens (and (is_pointers a) (and (is_text b) (and (is_exprs c) end))) own = made (is_declarator _)
 makes production.EndDeclarators mark tokens end own = made (is_declarators _)
 makes production.NextDeclarator mark tokens (and (is_declarator a) (and (is_declarators b) end)) own = made (is_declarators _)
-makes production.StructMember mark tokens (and (is_ctype a) (and (is_declarator b) (and (is_declarators c) end))) own = made (is_member _)
+makes production.StructMember mark tokens (and (is_specifiers a) (and (is_declarator b) (and (is_declarators c) end))) own = made (is_member _)
 makes production.EndMembers mark tokens end own = made (is_members _)
 makes production.NextMember mark tokens (and (is_member a) (and (is_members b) end)) own = made (is_members _)
 makes production.NoLocation mark tokens end own = made (is_optional_expr _)
@@ -278,7 +269,7 @@ makes production.NextInit mark tokens (and (is_init a) (and (is_inits b) end)) o
 makes production.InitDeclarator mark tokens (and (is_declarator a) (and (is_optional_expr b) (and (is_optional_init c) end))) own = made (is_init_declarator _)
 makes production.EndInitDeclarators mark tokens end own = made (is_init_declarators _)
 makes production.NextInitDeclarator mark tokens (and (is_init_declarator a) (and (is_init_declarators b) end)) own = made (is_init_declarators _)
-makes production.LocalObject mark tokens (and (is_ctype a) (and (is_init_declarator b) (and (is_init_declarators c) end))) own = made (is_object _)
+makes production.LocalObject mark tokens (and (is_specifiers a) (and (is_init_declarator b) (and (is_init_declarators c) end))) own = made (is_object _)
 makes production.Block mark tokens (and (is_items a) end) own = made (is_stmt _)
 makes production.ExpressionStatement mark tokens (and (is_optional_expr a) end) own = made (is_stmt _)
 makes production.If mark tokens (and (is_expr a) (and (is_stmt b) (and (is_optional_stmt c) end))) own = made (is_stmt _)
@@ -289,6 +280,14 @@ makes production.Do mark tokens (and (is_stmt a) (and (is_expr b) end)) own = ma
 makes production.ForObject mark tokens (and (is_object a) end) own = made (is_for_first _)
 makes production.ForExpression mark tokens (and (is_optional_expr a) end) own = made (is_for_first _)
 makes production.For mark tokens (and (is_for_first a) (and (is_optional_expr b) (and (is_optional_expr c) (and (is_stmt d) end)))) own = made (is_stmt _)
+makes production.Switch mark tokens (and (is_expr a) (and (is_switch_items b) end)) own = made (is_stmt _)
+makes production.NoSwitchItems mark tokens end own = made (is_switch_items _)
+makes production.FirstLabel mark tokens (and (is_label a) (and (is_switch_items b) end)) own = made (is_switch_items _)
+makes production.EndSwitchItems mark tokens end own = made (is_switch_items _)
+makes production.NextLabel mark tokens (and (is_label a) (and (is_switch_items b) end)) own = made (is_switch_items _)
+makes production.NextSwitchStatement mark tokens (and (is_stmt a) (and (is_switch_items b) end)) own = made (is_switch_items _)
+makes production.CaseLabel mark tokens (and (is_expr a) end) own = made (is_label _)
+makes production.DefaultLabel mark tokens end own = made (is_label _)
 makes production.Break mark tokens end own = made (is_stmt _)
 makes production.Continue mark tokens end own = made (is_stmt _)
 makes production.Return mark tokens (and (is_optional_expr a) end) own = made (is_stmt _)
@@ -301,7 +300,7 @@ makes production.StructUnit mark tokens (and (is_text a) (and (is_member b) (and
 makes production.RegisterUnit mark tokens (and is_register_type end) own = made (is_unit _)
 makes production.UnsignedInt mark tokens end own = made is_register_type
 makes production.RegisterUint32 mark tokens end own = made is_register_type
-makes production.External mark tokens (and (is_ctype a) (and (is_pointers b) (and (is_text c) (and (is_external_rest d) end)))) own = made (is_unit _)
+makes production.External mark tokens (and (is_specifiers a) (and (is_pointers b) (and (is_text c) (and (is_external_rest d) end)))) own = made (is_unit _)
 makes production.ObjectRest mark tokens (and (is_exprs a) (and (is_optional_expr b) (and (is_optional_init c) (and (is_init_declarators d) end)))) own = made (is_external_rest _)
 makes production.FunctionRest mark tokens (and (is_parameters a) (and (is_function_end b) end)) own = made (is_external_rest _)
 makes production.PrototypeEnd mark tokens end own = made (is_function_end _)
@@ -309,8 +308,8 @@ makes production.FunctionBody mark tokens (and (is_items a) end) own = made (is_
 makes production.NoParameters mark tokens end own = made (is_parameters _)
 makes production.VoidParameters mark tokens end own = made (is_parameters _)
 makes production.SomeParameters mark tokens (and (is_parameter a) (and (is_parameter_list b) end)) own = made (is_parameters _)
-makes production.Parameter mark tokens (and (is_ctype a) (and (is_pointers b) (and (is_text c) (and (is_exprs d) end)))) own = made (is_parameter _)
-makes production.ArrayParameter mark tokens (and (is_ctype a) (and (is_pointers b) (and (is_text c) end))) own = made (is_parameter _)
+makes production.Parameter mark tokens (and (is_specifiers a) (and (is_pointers b) (and (is_text c) (and (is_exprs d) end)))) own = made (is_parameter _)
+makes production.ArrayParameter mark tokens (and (is_specifiers a) (and (is_pointers b) (and (is_text c) end))) own = made (is_parameter _)
 makes production.EndParameters mark tokens end own = made (is_parameter_list _)
 makes production.NextParameter mark tokens (and (is_parameter a) (and (is_parameter_list b) end)) own = made (is_parameter_list _)
 makes production.EndUnits mark tokens end own = made (is_units _)

@@ -17,9 +17,10 @@ use Rattle.cparts.specs.declared.value.ExternalRest.TheVariants as rest
 use Rattle.cparts.specs.declared.value.Value.{Value}
 use Rattle.cparts.specs.declared.value.Value.TheVariants as value
 use Rattle.cparts.specs.Value.{bare_value, bare_values}
-use Rattle.cparts.specs.Parts.{pick, perhaps, words}
+use Rattle.cparts.specs.Parts as taken
+use Rattle.cparts.specs.Parts.{pick, perhaps, one, two, three, four, words}
 use Rattle.caction.specs.Make.{table, first, last, identifier, literal, number, character, prefix_of, expression_at, standard, specified, qualified, worded, no_words}
-use Rattle.cparse.proofs.Shape.{shape, shapes, Fits, end, and, is_base, is_ctype, is_declarator, is_declarators, is_expr, is_exprs, is_external_rest, is_for_first, is_function_end, is_init, is_init_declarator, is_init_declarators, is_inits, is_items, is_member, is_members, is_object, is_optional_expr, is_optional_init, is_optional_stmt, is_parameter, is_parameter_list, is_parameters, is_pointers, is_qualifiers, is_register_type, is_stmt, is_text, is_type_name, is_unit, is_units, is_words}
+use Rattle.cparse.proofs.Shape.{shape, shapes, Fits, end, and, is_base, is_specifiers, is_declarator, is_declarators, is_expr, is_exprs, is_external_rest, is_for_first, is_function_end, is_init, is_init_declarator, is_init_declarators, is_inits, is_items, is_label, is_member, is_members, is_object, is_optional_expr, is_optional_init, is_optional_stmt, is_parameter, is_parameter_list, is_parameters, is_pointers, is_qualifiers, is_register_type, is_stmt, is_switch_items, is_text, is_type_name, is_unit, is_units, is_words}
 
 -- the values of tokens
 identifier-bare : (o : Option TokenKind) → option_map bare_value (identifier o) ≡ identifier o
@@ -62,7 +63,7 @@ plain-bare wrap plain (Some x) = ap Some (plain x)
 next-word : (vs : List Value) (o : Option TokenKind)
     → option_map bare_value (perhaps words (λ w. option_map (λ v. value.Words v) (worded w o)) vs)
     ≡ perhaps words (λ w. option_map (λ v. value.Words v) (worded w o)) (bare_values vs)
-unfolding pick
+unfolding pick perhaps
 next-word [] o = refl
 next-word (value.Words x ∷ []) o = plain-bare value.Words (λ x. refl) (worded x o)
 next-word (value.Words x ∷ _ ∷ _) o = refl
@@ -70,7 +71,7 @@ next-word (_ ∷ _) o = refl
 
 pub natural : (p : Production) (mark : Mark) (tokens : List Token) {vs : List Value} → Fits (shapes (template p)) vs
     → option_map bare_value (table p mark tokens vs) ≡ table p mark tokens (bare_values vs)
-unfolding shape shapes template home alone table pick
+unfolding shape shapes template home alone table pick perhaps one two three four taken.none
 natural production.Identifier mark tokens end = identifier-bare (first tokens)
 natural production.Name mark tokens (and (is_text a) end) = refl
 natural production.Number mark tokens end = number-bare mark (first tokens)
@@ -90,6 +91,8 @@ natural production.SizeofExpression mark tokens (and (is_expr a) end) = refl
 natural production.SizeofType mark tokens (and (is_type_name a) end) = refl
 natural production.Cast mark tokens (and (is_type_name a) (and (is_expr b) end)) = refl
 natural (production.Binary o) mark tokens (and (is_expr a) (and (is_expr b) end)) = refl
+natural (production.Comparison o) mark tokens (and (is_expr a) (and (is_expr b) end)) = refl
+natural (production.Logical o) mark tokens (and (is_expr a) (and (is_expr b) end)) = refl
 natural production.Conditional mark tokens (and (is_expr a) (and (is_expr b) (and (is_expr c) end))) = refl
 natural production.Assign mark tokens (and (is_expr a) (and (is_expr b) end)) = refl
 natural (production.AssignWith o) mark tokens (and (is_expr a) (and (is_expr b) end)) = refl
@@ -100,8 +103,8 @@ natural production.EndArguments mark tokens end = refl
 natural production.NextArgument mark tokens (and (is_expr a) (and (is_exprs b) end)) = refl
 natural production.NoExpression mark tokens end = refl
 natural production.SomeExpression mark tokens (and (is_expr a) end) = refl
-natural production.TypeName mark tokens (and (is_ctype a) (and (is_pointers b) end)) = refl
-natural production.Specified mark tokens (and (is_ctype a) end) = plain-bare value.CType (λ x. refl) (specified a (first tokens))
+natural production.TypeName mark tokens (and (is_specifiers a) (and (is_pointers b) end)) = refl
+natural production.Specified mark tokens (and (is_specifiers a) end) = plain-bare value.Specifiers (λ x. refl) (specified a (first tokens))
 natural production.Based mark tokens (and (is_base a) (and (is_qualifiers b) end)) = refl
 natural production.NoQualifiers mark tokens end = refl
 natural production.Qualified mark tokens (and (is_qualifiers a) end) = plain-bare value.Qualifiers (λ x. refl) (qualified a (first tokens))
@@ -120,7 +123,7 @@ natural production.Length mark tokens (and (is_expr a) (and (is_exprs b) end)) =
 natural production.Declarator mark tokens (and (is_pointers a) (and (is_text b) (and (is_exprs c) end))) = refl
 natural production.EndDeclarators mark tokens end = refl
 natural production.NextDeclarator mark tokens (and (is_declarator a) (and (is_declarators b) end)) = refl
-natural production.StructMember mark tokens (and (is_ctype a) (and (is_declarator b) (and (is_declarators c) end))) = refl
+natural production.StructMember mark tokens (and (is_specifiers a) (and (is_declarator b) (and (is_declarators c) end))) = refl
 natural production.EndMembers mark tokens end = refl
 natural production.NextMember mark tokens (and (is_member a) (and (is_members b) end)) = refl
 natural production.NoLocation mark tokens end = refl
@@ -136,7 +139,7 @@ natural production.NextInit mark tokens (and (is_init a) (and (is_inits b) end))
 natural production.InitDeclarator mark tokens (and (is_declarator a) (and (is_optional_expr b) (and (is_optional_init c) end))) = refl
 natural production.EndInitDeclarators mark tokens end = refl
 natural production.NextInitDeclarator mark tokens (and (is_init_declarator a) (and (is_init_declarators b) end)) = refl
-natural production.LocalObject mark tokens (and (is_ctype a) (and (is_init_declarator b) (and (is_init_declarators c) end))) = refl
+natural production.LocalObject mark tokens (and (is_specifiers a) (and (is_init_declarator b) (and (is_init_declarators c) end))) = refl
 natural production.Block mark tokens (and (is_items a) end) = refl
 natural production.ExpressionStatement mark tokens (and (is_optional_expr a) end) = refl
 natural production.If mark tokens (and (is_expr a) (and (is_stmt b) (and (is_optional_stmt None) end))) = refl
@@ -148,6 +151,14 @@ natural production.Do mark tokens (and (is_stmt a) (and (is_expr b) end)) = refl
 natural production.ForObject mark tokens (and (is_object a) end) = refl
 natural production.ForExpression mark tokens (and (is_optional_expr a) end) = refl
 natural production.For mark tokens (and (is_for_first a) (and (is_optional_expr b) (and (is_optional_expr c) (and (is_stmt d) end)))) = refl
+natural production.Switch mark tokens (and (is_expr a) (and (is_switch_items b) end)) = refl
+natural production.NoSwitchItems mark tokens end = refl
+natural production.FirstLabel mark tokens (and (is_label a) (and (is_switch_items b) end)) = refl
+natural production.EndSwitchItems mark tokens end = refl
+natural production.NextLabel mark tokens (and (is_label a) (and (is_switch_items b) end)) = refl
+natural production.NextSwitchStatement mark tokens (and (is_stmt a) (and (is_switch_items b) end)) = refl
+natural production.CaseLabel mark tokens (and (is_expr a) end) = refl
+natural production.DefaultLabel mark tokens end = refl
 natural production.Break mark tokens end = refl
 natural production.Continue mark tokens end = refl
 natural production.Return mark tokens (and (is_optional_expr a) end) = refl
@@ -160,9 +171,9 @@ natural production.StructUnit mark tokens (and (is_text a) (and (is_member b) (a
 natural production.RegisterUnit mark tokens (and is_register_type end) = refl
 natural production.UnsignedInt mark tokens end = refl
 natural production.RegisterUint32 mark tokens end = refl
-natural production.External mark tokens (and (is_ctype a) (and (is_pointers b) (and (is_text c) (and (is_external_rest (rest.Object o)) end)))) = refl
-natural production.External mark tokens (and (is_ctype a) (and (is_pointers b) (and (is_text c) (and (is_external_rest (rest.Function ps None)) end)))) = refl
-natural production.External mark tokens (and (is_ctype a) (and (is_pointers b) (and (is_text c) (and (is_external_rest (rest.Function ps (Some body))) end)))) = refl
+natural production.External mark tokens (and (is_specifiers a) (and (is_pointers b) (and (is_text c) (and (is_external_rest (rest.Object o)) end)))) = refl
+natural production.External mark tokens (and (is_specifiers a) (and (is_pointers b) (and (is_text c) (and (is_external_rest (rest.Function ps None)) end)))) = refl
+natural production.External mark tokens (and (is_specifiers a) (and (is_pointers b) (and (is_text c) (and (is_external_rest (rest.Function ps (Some body))) end)))) = refl
 natural production.ObjectRest mark tokens (and (is_exprs a) (and (is_optional_expr b) (and (is_optional_init c) (and (is_init_declarators d) end)))) = refl
 natural production.FunctionRest mark tokens (and (is_parameters a) (and (is_function_end b) end)) = refl
 natural production.PrototypeEnd mark tokens end = refl
@@ -170,8 +181,8 @@ natural production.FunctionBody mark tokens (and (is_items a) end) = refl
 natural production.NoParameters mark tokens end = refl
 natural production.VoidParameters mark tokens end = refl
 natural production.SomeParameters mark tokens (and (is_parameter a) (and (is_parameter_list b) end)) = refl
-natural production.Parameter mark tokens (and (is_ctype a) (and (is_pointers b) (and (is_text c) (and (is_exprs d) end)))) = refl
-natural production.ArrayParameter mark tokens (and (is_ctype a) (and (is_pointers b) (and (is_text c) end))) = refl
+natural production.Parameter mark tokens (and (is_specifiers a) (and (is_pointers b) (and (is_text c) (and (is_exprs d) end)))) = refl
+natural production.ArrayParameter mark tokens (and (is_specifiers a) (and (is_pointers b) (and (is_text c) end))) = refl
 natural production.EndParameters mark tokens end = refl
 natural production.NextParameter mark tokens (and (is_parameter a) (and (is_parameter_list b) end)) = refl
 natural production.EndUnits mark tokens end = refl

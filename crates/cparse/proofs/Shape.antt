@@ -1,12 +1,12 @@
 -- Which kind of value the parts of each class have.
 use Rattle.std.proofs.Common.{◌≡◌, ℕ, ◌⊎◌, Bool, true, false, ◌&&◌, List, [], ◌∷◌, Option, Some, refl, ap, inl, inr}
 use Rattle.std.specs.Global.{Box}
-use Rattle.csyn.specs.declared.ctype.Base.{Base}
-use Rattle.csyn.specs.declared.ctype.CType.{CType}
-use Rattle.csyn.specs.declared.ctype.IntegerWords.{IntegerWords}
-use Rattle.csyn.specs.declared.ctype.Pointer.{Pointer}
-use Rattle.csyn.specs.declared.ctype.Pointers.{Pointers}
-use Rattle.csyn.specs.declared.ctype.TypeName.{TypeName}
+use Rattle.csyn.specs.declared.specifiers.Base.{Base}
+use Rattle.csyn.specs.declared.specifiers.Specifiers.{Specifiers}
+use Rattle.csyn.specs.declared.specifiers.IntegerWords.{IntegerWords}
+use Rattle.csyn.specs.declared.specifiers.Pointer.{Pointer}
+use Rattle.csyn.specs.declared.specifiers.Pointers.{Pointers}
+use Rattle.csyn.specs.declared.specifiers.TypeName.{TypeName}
 use Rattle.csyn.specs.declared.expression.Expr.{Expr}
 use Rattle.csyn.specs.declared.expression.Exprs.{Exprs}
 use Rattle.csyn.specs.declared.declaration.Declarator.{Declarator}
@@ -24,6 +24,8 @@ use Rattle.csyn.specs.declared.declaration.Parameters.{Parameters}
 use Rattle.csyn.specs.declared.statement.ForFirst.{ForFirst}
 use Rattle.csyn.specs.declared.statement.Stmt.{Stmt}
 use Rattle.csyn.specs.declared.statement.Items.{Items}
+use Rattle.csyn.specs.declared.statement.Label.{Label}
+use Rattle.csyn.specs.declared.statement.SwitchItems.{SwitchItems}
 use Rattle.csyn.specs.declared.unit.Unit as declared_unit
 use Rattle.csyn.specs.declared.unit.Units.{Units}
 use Rattle.cparts.specs.declared.value.ExternalRest.{ExternalRest}
@@ -39,7 +41,7 @@ pub data Shape : Type 0 where
   exprs : Shape
   optional_expr : Shape
   type_name : Shape
-  ctype : Shape
+  specifiers : Shape
   base : Shape
   words : Shape
   qualifiers : Shape
@@ -58,6 +60,8 @@ pub data Shape : Type 0 where
   optional_stmt : Shape
   for_first : Shape
   items : Shape
+  label : Shape
+  switch_items : Shape
   external_rest : Shape
   function_end : Shape
   parameters : Shape
@@ -76,7 +80,7 @@ pub data IsOf : Shape → Value → Type 0 where
   is_exprs : (x : Exprs) → IsOf exprs (value.Exprs x)
   is_optional_expr : (x : Option (Box Expr)) → IsOf optional_expr (value.OptionalExpr x)
   is_type_name : (x : TypeName) → IsOf type_name (value.TypeName x)
-  is_ctype : (x : CType) → IsOf ctype (value.CType x)
+  is_specifiers : (x : Specifiers) → IsOf specifiers (value.Specifiers x)
   is_base : (x : Base) → IsOf base (value.Base x)
   is_words : (x : IntegerWords) → IsOf words (value.Words x)
   is_qualifiers : (x : Pointer) → IsOf qualifiers (value.Qualifiers x)
@@ -95,6 +99,8 @@ pub data IsOf : Shape → Value → Type 0 where
   is_optional_stmt : (x : Option (Box Stmt)) → IsOf optional_stmt (value.OptionalStmt x)
   is_for_first : (x : ForFirst) → IsOf for_first (value.ForFirst x)
   is_items : (x : Items) → IsOf items (value.Items x)
+  is_label : (x : Label) → IsOf label (value.Label x)
+  is_switch_items : (x : SwitchItems) → IsOf switch_items (value.SwitchItems x)
   is_external_rest : (x : ExternalRest) → IsOf external_rest (value.ExternalRest x)
   is_function_end : (x : Option Items) → IsOf function_end (value.FunctionEnd x)
   is_parameters : (x : Parameters) → IsOf parameters (value.Parameters x)
@@ -115,7 +121,7 @@ shape class.arguments = exprs
 shape class.more_arguments = exprs
 shape class.optional_expression = optional_expr
 shape class.type_name = type_name
-shape class.«type» = ctype
+shape class.«type» = specifiers
 shape class.base = base
 shape class.integer = words
 shape class.qualifiers = qualifiers
@@ -138,6 +144,9 @@ shape class.optional_else = optional_stmt
 shape class.for_first = for_first
 shape class.region_name = text
 shape class.items = items
+shape class.label = label
+shape class.switch_items = switch_items
+shape class.more_switch_items = switch_items
 shape class.units = units
 shape class.unit = unit
 shape class.register_type = register_type

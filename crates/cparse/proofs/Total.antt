@@ -8,7 +8,7 @@ use Rattle.cgrammar.specs.declared.production.Word.TheVariants as word
 use Rattle.cgrammar.specs.declared.production.Words.TheVariants as every
 use Rattle.cgrammar.specs.declared.production.Production.{Production}
 use Rattle.cgrammar.specs.declared.production.Production.TheVariants as production
-use Rattle.cgrammar.specs.Grammar.{Piece, token, part, home, template, assignment_class, joined, before, alone, source}
+use Rattle.cgrammar.specs.Grammar.{Piece, token, part, home, template, joined, before, alone, source}
 use Rattle.cgrammar.specs.Text.{Written, leaf, node, Forest, none, more, spell, spells, Stands, IsProper, Match}
 use Rattle.cparts.specs.declared.value.Value.{Value}
 use Rattle.cparts.specs.declared.value.Value.TheVariants as value
@@ -60,7 +60,7 @@ own-tokens _ parts m = tt
 
 -- a production in use has only parts in use
 pub used-parts : (p : Production) → is_used (shape (home p)) ≡ true → all_used (shapes (template p)) ≡ true
-unfolding is_used all_used shape shapes home template alone joined before assignment_class
+unfolding is_used all_used shape shapes home template alone joined before
 used-parts (production.FirstWord word.Sign) h = refl
 used-parts (production.NextWord every.SignChar word.Char) h = refl
 used-parts (production.NextWord every.SignLength word.Length) h = refl

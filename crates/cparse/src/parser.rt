@@ -15,9 +15,6 @@ use creader::{ReadFault, one_text, read_entries};
 use csyn::{Cause, SourceFault, Token, Tree, Units};
 use std::alloc::Global;
 
-/// More productions than this are more than memory is asked for. A source of 100,000 tokens has far fewer.
-const MAX_PRODUCTIONS: usize = 0x7fff_ffff;
-
 /// Why a token of this kind can't stand where it stands.
 fn kind_cause(kind: Kind) -> Cause
     ensures { result ≡ parsed.kind_cause kind }
@@ -65,9 +62,6 @@ pub fn parse(alloc: Global, tokens: &[Token]) -> Result<Tree, SourceFault>
         }
         Err(ReadFault::Memory) => return Err(SourceFault::Memory),
     };
-    if entries.len() > MAX_PRODUCTIONS {
-        return Err(SourceFault::Memory);
-    }
     if let Some(place) = first_deep(alloc, &entries)? {
         return Err(SourceFault::Broken {
             span: tokens[place].span,

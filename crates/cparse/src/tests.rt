@@ -85,7 +85,7 @@ fn verdict(alloc: Global, body: &[Repeated]) -> Result<String, AllocError> {
     }
 }
 
-const PARENTHESES: [Row; 4] = [
+const ROWS: [Row; 14] = [
     (&[(&["("], 99_000)], "1:99007 G1"),
     (&[(&["("], 99_000), (&["goto"], 1)], "1:99007 G2"),
     (
@@ -106,16 +106,10 @@ const PARENTHESES: [Row; 4] = [
         ],
         "1:99987 G1",
     ),
-];
-
-const BLOCKS: [Row; 3] = [
     (&[(&["{"], 99_000)], "1:99007 G1"),
     // the innermost of 256 blocks stands at level 257
     (&[(&["{"], 49_990), (&["}"], 49_991)], "1:262 G3"),
     (&[(&["{"], 49_990), (&["}"], 49_992)], "1:99988 G1"),
-];
-
-const OPERATORS: [Row; 4] = [
     (&[(&["-"], 99_000)], "1:99007 G1"),
     // behind 254 operators the next one stands at level 257
     (&[(&["-"], 99_000), (&["a", ";", "}"], 1)], "1:261 G3"),
@@ -125,44 +119,14 @@ const OPERATORS: [Row; 4] = [
         "1:7 G3",
     ),
     (&[(&["a"], 1), (&["+", "a"], 49_995)], "1:99998 G1"),
-];
-
-const STATEMENTS: [Row; 3] = [
     (&[(&["a", ";"], 30_000), (&["}"], 1)], "60007 tokens"),
     (&[(&[";"], 99_000), (&["}"], 1)], "99007 tokens"),
     (&[(&["a", ";"], 30_000), (&["}", "}"], 1)], "1:60008 G1"),
 ];
 
 #[test]
-fn many_parentheses(rt: HostRuntime) -> Result<(), Fail> {
-    for (body, want) in &PARENTHESES {
-        let got = verdict(rt.alloc(), body)?;
-        assert_eq!(rt; got.as_str(), *want);
-    }
-    Ok(())
-}
-
-#[test]
-fn many_blocks(rt: HostRuntime) -> Result<(), Fail> {
-    for (body, want) in &BLOCKS {
-        let got = verdict(rt.alloc(), body)?;
-        assert_eq!(rt; got.as_str(), *want);
-    }
-    Ok(())
-}
-
-#[test]
-fn many_operators(rt: HostRuntime) -> Result<(), Fail> {
-    for (body, want) in &OPERATORS {
-        let got = verdict(rt.alloc(), body)?;
-        assert_eq!(rt; got.as_str(), *want);
-    }
-    Ok(())
-}
-
-#[test]
-fn many_statements(rt: HostRuntime) -> Result<(), Fail> {
-    for (body, want) in &STATEMENTS {
+fn many_tokens(rt: HostRuntime) -> Result<(), Fail> {
+    for (body, want) in &ROWS {
         let got = verdict(rt.alloc(), body)?;
         assert_eq!(rt; got.as_str(), *want);
     }

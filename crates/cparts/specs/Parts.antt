@@ -1,12 +1,14 @@
 -- How a production takes the values of its parts: each in turn, as the kind of value that it has to be, and all of them.
 use Rattle.std.specs.Prelude.{ℕ, List, [], ◌∷◌, Option, Some, None, drop}
+use Rattle.std.specs.Option.{option_map}
 use Rattle.std.specs.Global.{Box}
-use Rattle.csyn.specs.declared.ctype.Base.{Base}
-use Rattle.csyn.specs.declared.ctype.CType.{CType}
-use Rattle.csyn.specs.declared.ctype.IntegerWords.{IntegerWords}
-use Rattle.csyn.specs.declared.ctype.Pointer.{Pointer}
-use Rattle.csyn.specs.declared.ctype.Pointers.{Pointers}
-use Rattle.csyn.specs.declared.ctype.TypeName.{TypeName}
+use Rattle.csyn.specs.Bare.{at_null}
+use Rattle.csyn.specs.declared.specifiers.Base.{Base}
+use Rattle.csyn.specs.declared.specifiers.Specifiers.{Specifiers}
+use Rattle.csyn.specs.declared.specifiers.IntegerWords.{IntegerWords}
+use Rattle.csyn.specs.declared.specifiers.Pointer.{Pointer}
+use Rattle.csyn.specs.declared.specifiers.Pointers.{Pointers}
+use Rattle.csyn.specs.declared.specifiers.TypeName.{TypeName}
 use Rattle.csyn.specs.declared.expression.Expr.{Expr}
 use Rattle.csyn.specs.declared.expression.Exprs.{Exprs}
 use Rattle.csyn.specs.declared.declaration.Declarator.{Declarator}
@@ -22,7 +24,9 @@ use Rattle.csyn.specs.declared.declaration.Parameter.{Parameter}
 use Rattle.csyn.specs.declared.declaration.ParameterList.{ParameterList}
 use Rattle.csyn.specs.declared.declaration.Parameters.{Parameters}
 use Rattle.csyn.specs.declared.statement.ForFirst.{ForFirst}
+use Rattle.csyn.specs.declared.statement.Label.{Label}
 use Rattle.csyn.specs.declared.statement.Stmt.{Stmt}
+use Rattle.csyn.specs.declared.statement.SwitchItems.{SwitchItems}
 use Rattle.csyn.specs.declared.statement.Items.{Items}
 use Rattle.csyn.specs.declared.unit.Unit as declared_unit
 use Rattle.csyn.specs.declared.unit.Units.{Units}
@@ -50,9 +54,9 @@ abbrev pub type_name : Value → Option TypeName
 type_name (value.TypeName x) = Some x
 type_name _ = None
 
-abbrev pub ctype : Value → Option CType
-ctype (value.CType x) = Some x
-ctype _ = None
+abbrev pub specifiers : Value → Option Specifiers
+specifiers (value.Specifiers x) = Some x
+specifiers _ = None
 
 abbrev pub base : Value → Option Base
 base (value.Base x) = Some x
@@ -126,6 +130,14 @@ abbrev pub items : Value → Option Items
 items (value.Items x) = Some x
 items _ = None
 
+abbrev pub label : Value → Option Label
+label (value.Label x) = Some x
+label _ = None
+
+abbrev pub switch_items : Value → Option SwitchItems
+switch_items (value.SwitchItems x) = Some x
+switch_items _ = None
+
 abbrev pub external_rest : Value → Option ExternalRest
 external_rest (value.ExternalRest x) = Some x
 external_rest _ = None
@@ -158,6 +170,10 @@ abbrev pub register_type : Value → Option (Unit {0})
 register_type value.RegisterType = Some tt
 register_type _ = None
 
+-- the same in a box
+abbrev pub boxed : {A : Type 0} → (Value → Option A) → Value → Option (Box A)
+boxed take v = option_map at_null (take v)
+
 -- the first value, taken so
 abbrev pub next : {A : Type 0} → (Value → Option A) → List Value → Option A
 next take [] = None
@@ -177,21 +193,23 @@ only made [] = made
 only made (_ ∷ _) = None
 
 -- what is made of no parts, of one, two, three or four
-abbrev pub none : Value → List Value → Option Value
+unfoldable pub none : Value → List Value → Option Value
 none made = only (Some made)
 
-abbrev pub one : {A : Type 0} → (Value → Option A) → (A → Value) → List Value → Option Value
-one first make = pick first (λ a. none (make a))
+-- what is made of one part, if it is made at all
+unfoldable pub perhaps : {A : Type 0} → (Value → Option A) → (A → Option Value) → List Value → Option Value
+perhaps first make = pick first (λ a. only (make a))
 
-abbrev pub two : {A B : Type 0} → (Value → Option A) → (Value → Option B) → (A → B → Value) → List Value → Option Value
+unfoldable pub one : {A : Type 0} → (Value → Option A) → (A → Value) → List Value → Option Value
+one first make = pick first (λ a. only (Some (make a)))
+
+unfoldable pub two : {A B : Type 0} → (Value → Option A) → (Value → Option B) → (A → B → Value) → List Value → Option Value
 two first second make = pick first (λ a. one second (make a))
 
-abbrev pub three : {A B C : Type 0} → (Value → Option A) → (Value → Option B) → (Value → Option C) → (A → B → C → Value) → List Value → Option Value
+unfoldable pub three : {A B C : Type 0} → (Value → Option A) → (Value → Option B) → (Value → Option C) → (A → B → C → Value) → List Value
+    → Option Value
 three first second third make = pick first (λ a. two second third (make a))
 
-abbrev pub four : {A B C D : Type 0} → (Value → Option A) → (Value → Option B) → (Value → Option C) → (Value → Option D) → (A → B → C → D → Value) → List Value → Option Value
+unfoldable pub four : {A B C D : Type 0} → (Value → Option A) → (Value → Option B) → (Value → Option C) → (Value → Option D)
+    → (A → B → C → D → Value) → List Value → Option Value
 four first second third fourth make = pick first (λ a. three second third fourth (make a))
-
--- what is made of one part, if it is made at all
-abbrev pub perhaps : {A : Type 0} → (Value → Option A) → (A → Option Value) → List Value → Option Value
-perhaps first make = pick first (λ a. only (make a))

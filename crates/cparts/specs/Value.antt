@@ -1,7 +1,7 @@
 -- Values without their pointers.
 use Rattle.std.specs.Prelude.{List, map}
 use Rattle.std.specs.Option.{option_map}
-use Rattle.csyn.specs.Bare.{option_bare, bare_pointers, bare_type_name, bare_expr, bare_exprs, bare_declarator, bare_declarators, bare_member, bare_members, bare_init, bare_inits, bare_init_declarator, bare_init_declarators, bare_local, bare_parameter, bare_parameter_list, bare_parameters, bare_for_first, bare_stmt, bare_items, bare_unit, bare_units}
+use Rattle.csyn.specs.Bare.{option_bare, bare_pointers, bare_type_name, bare_expr, bare_exprs, bare_declarator, bare_declarators, bare_member, bare_members, bare_init, bare_inits, bare_init_declarator, bare_init_declarators, bare_local, bare_parameter, bare_parameter_list, bare_parameters, bare_for_first, bare_stmt, bare_items, bare_label, bare_switch_items, bare_unit, bare_units}
 use Rattle.cparts.specs.declared.value.ExternalRest.{ExternalRest}
 use Rattle.cparts.specs.declared.value.ExternalRest.TheVariants as rest
 use Rattle.cparts.specs.declared.value.Value.{Value}
@@ -22,7 +22,7 @@ bare_value (value.Expr e) = value.Expr (bare_expr e)
 bare_value (value.Exprs all) = value.Exprs (bare_exprs all)
 bare_value (value.OptionalExpr e) = value.OptionalExpr (option_bare bare_expr e)
 bare_value (value.TypeName t) = value.TypeName (bare_type_name t)
-bare_value (value.CType t) = value.CType t
+bare_value (value.Specifiers s) = value.Specifiers s
 bare_value (value.Base b) = value.Base b
 bare_value (value.Words w) = value.Words w
 bare_value (value.Qualifiers q) = value.Qualifiers q
@@ -41,6 +41,8 @@ bare_value (value.Stmt s) = value.Stmt (bare_stmt s)
 bare_value (value.OptionalStmt s) = value.OptionalStmt (option_bare bare_stmt s)
 bare_value (value.ForFirst f) = value.ForFirst (bare_for_first f)
 bare_value (value.Items all) = value.Items (bare_items all)
+bare_value (value.Label l) = value.Label (bare_label l)
+bare_value (value.SwitchItems all) = value.SwitchItems (bare_switch_items all)
 bare_value value.RegisterType = value.RegisterType
 bare_value (value.ExternalRest r) = value.ExternalRest (bare_rest r)
 bare_value (value.FunctionEnd body) = value.FunctionEnd (option_map bare_items body)

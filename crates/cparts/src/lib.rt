@@ -7,6 +7,6 @@ mod parts;
 mod value;
 
 pub use fault::MakeFault;
-pub use part::Part;
-pub use parts::Parts;
+pub use part::FromValue;
+pub use parts::{boxed_two, four, none, one, three, two};
 pub use value::{ExternalRest, ObjectRest, Value};

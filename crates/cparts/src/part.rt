@@ -1,453 +1,496 @@
 //! The kinds of values.
-ghost use Rattle.std.specs.Prelude.{◌≡◌, Option, None, MatchOption};
+ghost use Rattle.std.specs.Prelude.{◌≡◌, Option, None, Some, Err, MatchResult};
 ghost use Rattle.std.specs.Option.{option_map};
-ghost use Rattle.csyn.specs.Bare.{option_bare, bare_declarator, bare_declarators, bare_expr, bare_exprs, bare_for_first, bare_init, bare_init_declarator, bare_init_declarators, bare_inits, bare_items, bare_local, bare_member, bare_members, bare_parameter, bare_parameter_list, bare_parameters, bare_pointers, bare_stmt, bare_type_name, bare_unit, bare_units};
+ghost use Rattle.csyn.specs.Bare.{box_bare, option_bare, bare_declarator, bare_declarators, bare_expr, bare_exprs, bare_for_first, bare_init, bare_init_declarator, bare_init_declarators, bare_inits, bare_items, bare_label, bare_local, bare_member, bare_members, bare_parameter, bare_parameter_list, bare_parameters, bare_pointers, bare_stmt, bare_switch_items, bare_type_name, bare_unit, bare_units};
 ghost use Rattle.cparts.specs.Value.{bare_rest, bare_value};
 ghost use Rattle.cparts.specs.Parts as specs;
+ghost use Rattle.cparts.specs.declared.fault.MakeFault.TheVariants as fault;
 ghost use Rattle.cparts.specs.declared.value.Value.{Value};
-ghost use Rattle.cparts.specs.declared.value.Value.TheVariants as value;
 
+use crate::fault::MakeFault;
 use crate::value::{ExternalRest, Value};
 use csyn::{
-    Base, CType, Declarator, Declarators, Expr, Exprs, ForFirst, Init, InitDeclarator,
-    InitDeclarators, Inits, IntegerWords, Items, LocalObject, Member, Members, Parameter,
-    ParameterList, Parameters, Pointer, Pointers, Stmt, Text, TypeName, Unit, Units,
+    Base, Declarator, Declarators, Expr, Exprs, ForFirst, Init, InitDeclarator, InitDeclarators,
+    Inits, IntegerWords, Items, Label, LocalObject, Member, Members, Parameter, ParameterList,
+    Parameters, Pointer, Pointers, Specifiers, Stmt, SwitchItems, Text, TypeName, Unit, Units,
 };
+use std::alloc::Global;
 
-/// A kind of value, which a production can ask of a part.
-pub trait Part: Drop {
+/// What a production can ask of a part: the kind of value that it has to be.
+pub trait FromValue: Drop {
     /// What a value holds, if it is of this kind.
     ghost kind: { Value → Option Self };
 
-    /// The value that holds this, boxes aside.
-    ghost form: { Self → Value };
+    /// It without its boxes' pointers.
+    ghost bare: { Self → Self };
 
-    /// What the value holds, if it is of this kind.
-    fn of(value: Value) -> Option<Self>
-        ensures { MatchOption result (kind (bare_value value) ≡ None) (λ x. bare_value value ≡ form x) };
+    /// What the value holds, if it is of this kind. A value of another kind is dropped.
+    /// Err(Memory): no memory is left for a box.
+    fn from_value(alloc: Global, value: Value) -> Result<Self, MakeFault>
+        ensures { MatchResult result
+            (λ x. kind (bare_value value) ≡ Some (bare x))
+            (λ e. e ≡ fault.Parts → kind (bare_value value) ≡ None) };
 }
 
 /// Drops a value of another kind than is asked for.
-fn drop_other<T>(value: Value) -> Option<T>
-    ensures { result ≡ None }
+fn refuse<T>(value: Value) -> Result<T, MakeFault>
+    ensures { result ≡ Err fault.Parts }
 {
     drop(value);
-    None
+    Err(MakeFault::Parts)
 }
 
-impl Part for Text {
+/// In a box.
+impl<P: FromValue> FromValue for Box<P> {
+    ghost kind = { specs.boxed P.kind };
+
+    ghost bare = { box_bare P.bare };
+
+    fn from_value(alloc: Global, value: Value) -> Result<Self, MakeFault> {
+        let part = P::from_value(alloc, value)?;
+        Ok(Box::new(alloc, part)?)
+    }
+}
+
+impl FromValue for Text {
     ghost kind = { specs.text };
 
-    ghost form = { λ x. value.Text x };
+    ghost bare = { λ x. x };
 
-    fn of(value: Value) -> Option<Self> {
+    fn from_value(_: Global, value: Value) -> Result<Self, MakeFault> {
         match value {
-            Value::Text(x) => Some(x),
-            other => drop_other(other),
+            Value::Text(x) => Ok(x),
+            other => refuse(other),
         }
     }
 }
 
-impl Part for Expr {
+impl FromValue for Expr {
     ghost kind = { specs.expr };
 
-    ghost form = { λ x. value.Expr (bare_expr x) };
+    ghost bare = { bare_expr };
 
-    fn of(value: Value) -> Option<Self> {
+    fn from_value(_: Global, value: Value) -> Result<Self, MakeFault> {
         match value {
-            Value::Expr(x) => Some(x),
-            other => drop_other(other),
+            Value::Expr(x) => Ok(x),
+            other => refuse(other),
         }
     }
 }
 
-impl Part for Exprs {
+impl FromValue for Exprs {
     ghost kind = { specs.exprs };
 
-    ghost form = { λ x. value.Exprs (bare_exprs x) };
+    ghost bare = { bare_exprs };
 
-    fn of(value: Value) -> Option<Self> {
+    fn from_value(_: Global, value: Value) -> Result<Self, MakeFault> {
         match value {
-            Value::Exprs(x) => Some(x),
-            other => drop_other(other),
+            Value::Exprs(x) => Ok(x),
+            other => refuse(other),
         }
     }
 }
 
-impl Part for Option<Box<Expr>> {
+impl FromValue for Option<Box<Expr>> {
     ghost kind = { specs.optional_expr };
 
-    ghost form = { λ x. value.OptionalExpr (option_bare bare_expr x) };
+    ghost bare = { option_bare bare_expr };
 
-    fn of(value: Value) -> Option<Self> {
+    fn from_value(_: Global, value: Value) -> Result<Self, MakeFault> {
         match value {
-            Value::OptionalExpr(x) => Some(x),
-            other => drop_other(other),
+            Value::OptionalExpr(x) => Ok(x),
+            other => refuse(other),
         }
     }
 }
 
-impl Part for TypeName {
+impl FromValue for TypeName {
     ghost kind = { specs.type_name };
 
-    ghost form = { λ x. value.TypeName (bare_type_name x) };
+    ghost bare = { bare_type_name };
 
-    fn of(value: Value) -> Option<Self> {
+    fn from_value(_: Global, value: Value) -> Result<Self, MakeFault> {
         match value {
-            Value::TypeName(x) => Some(x),
-            other => drop_other(other),
+            Value::TypeName(x) => Ok(x),
+            other => refuse(other),
         }
     }
 }
 
-impl Part for CType {
-    ghost kind = { specs.ctype };
+impl FromValue for Specifiers {
+    ghost kind = { specs.specifiers };
 
-    ghost form = { λ x. value.CType x };
+    ghost bare = { λ x. x };
 
-    fn of(value: Value) -> Option<Self> {
+    fn from_value(_: Global, value: Value) -> Result<Self, MakeFault> {
         match value {
-            Value::CType(x) => Some(x),
-            other => drop_other(other),
+            Value::Specifiers(x) => Ok(x),
+            other => refuse(other),
         }
     }
 }
 
-impl Part for Base {
+impl FromValue for Base {
     ghost kind = { specs.base };
 
-    ghost form = { λ x. value.Base x };
+    ghost bare = { λ x. x };
 
-    fn of(value: Value) -> Option<Self> {
+    fn from_value(_: Global, value: Value) -> Result<Self, MakeFault> {
         match value {
-            Value::Base(x) => Some(x),
-            other => drop_other(other),
+            Value::Base(x) => Ok(x),
+            other => refuse(other),
         }
     }
 }
 
-impl Part for IntegerWords {
+impl FromValue for IntegerWords {
     ghost kind = { specs.words };
 
-    ghost form = { λ x. value.Words x };
+    ghost bare = { λ x. x };
 
-    fn of(value: Value) -> Option<Self> {
+    fn from_value(_: Global, value: Value) -> Result<Self, MakeFault> {
         match value {
-            Value::Words(x) => Some(x),
-            other => drop_other(other),
+            Value::Words(x) => Ok(x),
+            other => refuse(other),
         }
     }
 }
 
-impl Part for Pointer {
+impl FromValue for Pointer {
     ghost kind = { specs.qualifiers };
 
-    ghost form = { λ x. value.Qualifiers x };
+    ghost bare = { λ x. x };
 
-    fn of(value: Value) -> Option<Self> {
+    fn from_value(_: Global, value: Value) -> Result<Self, MakeFault> {
         match value {
-            Value::Qualifiers(x) => Some(x),
-            other => drop_other(other),
+            Value::Qualifiers(x) => Ok(x),
+            other => refuse(other),
         }
     }
 }
 
-impl Part for Pointers {
+impl FromValue for Pointers {
     ghost kind = { specs.pointers };
 
-    ghost form = { λ x. value.Pointers (bare_pointers x) };
+    ghost bare = { bare_pointers };
 
-    fn of(value: Value) -> Option<Self> {
+    fn from_value(_: Global, value: Value) -> Result<Self, MakeFault> {
         match value {
-            Value::Pointers(x) => Some(x),
-            other => drop_other(other),
+            Value::Pointers(x) => Ok(x),
+            other => refuse(other),
         }
     }
 }
 
-impl Part for Declarator {
+impl FromValue for Declarator {
     ghost kind = { specs.declarator };
 
-    ghost form = { λ x. value.Declarator (bare_declarator x) };
+    ghost bare = { bare_declarator };
 
-    fn of(value: Value) -> Option<Self> {
+    fn from_value(_: Global, value: Value) -> Result<Self, MakeFault> {
         match value {
-            Value::Declarator(x) => Some(x),
-            other => drop_other(other),
+            Value::Declarator(x) => Ok(x),
+            other => refuse(other),
         }
     }
 }
 
-impl Part for Declarators {
+impl FromValue for Declarators {
     ghost kind = { specs.declarators };
 
-    ghost form = { λ x. value.Declarators (bare_declarators x) };
+    ghost bare = { bare_declarators };
 
-    fn of(value: Value) -> Option<Self> {
+    fn from_value(_: Global, value: Value) -> Result<Self, MakeFault> {
         match value {
-            Value::Declarators(x) => Some(x),
-            other => drop_other(other),
+            Value::Declarators(x) => Ok(x),
+            other => refuse(other),
         }
     }
 }
 
-impl Part for Member {
+impl FromValue for Member {
     ghost kind = { specs.member };
 
-    ghost form = { λ x. value.Member (bare_member x) };
+    ghost bare = { bare_member };
 
-    fn of(value: Value) -> Option<Self> {
+    fn from_value(_: Global, value: Value) -> Result<Self, MakeFault> {
         match value {
-            Value::Member(x) => Some(x),
-            other => drop_other(other),
+            Value::Member(x) => Ok(x),
+            other => refuse(other),
         }
     }
 }
 
-impl Part for Members {
+impl FromValue for Members {
     ghost kind = { specs.members };
 
-    ghost form = { λ x. value.Members (bare_members x) };
+    ghost bare = { bare_members };
 
-    fn of(value: Value) -> Option<Self> {
+    fn from_value(_: Global, value: Value) -> Result<Self, MakeFault> {
         match value {
-            Value::Members(x) => Some(x),
-            other => drop_other(other),
+            Value::Members(x) => Ok(x),
+            other => refuse(other),
         }
     }
 }
 
-impl Part for Init {
+impl FromValue for Init {
     ghost kind = { specs.init };
 
-    ghost form = { λ x. value.Init (bare_init x) };
+    ghost bare = { bare_init };
 
-    fn of(value: Value) -> Option<Self> {
+    fn from_value(_: Global, value: Value) -> Result<Self, MakeFault> {
         match value {
-            Value::Init(x) => Some(x),
-            other => drop_other(other),
+            Value::Init(x) => Ok(x),
+            other => refuse(other),
         }
     }
 }
 
-impl Part for Option<Box<Init>> {
+impl FromValue for Option<Box<Init>> {
     ghost kind = { specs.optional_init };
 
-    ghost form = { λ x. value.OptionalInit (option_bare bare_init x) };
+    ghost bare = { option_bare bare_init };
 
-    fn of(value: Value) -> Option<Self> {
+    fn from_value(_: Global, value: Value) -> Result<Self, MakeFault> {
         match value {
-            Value::OptionalInit(x) => Some(x),
-            other => drop_other(other),
+            Value::OptionalInit(x) => Ok(x),
+            other => refuse(other),
         }
     }
 }
 
-impl Part for Inits {
+impl FromValue for Inits {
     ghost kind = { specs.inits };
 
-    ghost form = { λ x. value.Inits (bare_inits x) };
+    ghost bare = { bare_inits };
 
-    fn of(value: Value) -> Option<Self> {
+    fn from_value(_: Global, value: Value) -> Result<Self, MakeFault> {
         match value {
-            Value::Inits(x) => Some(x),
-            other => drop_other(other),
+            Value::Inits(x) => Ok(x),
+            other => refuse(other),
         }
     }
 }
 
-impl Part for InitDeclarator {
+impl FromValue for InitDeclarator {
     ghost kind = { specs.init_declarator };
 
-    ghost form = { λ x. value.InitDeclarator (bare_init_declarator x) };
+    ghost bare = { bare_init_declarator };
 
-    fn of(value: Value) -> Option<Self> {
+    fn from_value(_: Global, value: Value) -> Result<Self, MakeFault> {
         match value {
-            Value::InitDeclarator(x) => Some(x),
-            other => drop_other(other),
+            Value::InitDeclarator(x) => Ok(x),
+            other => refuse(other),
         }
     }
 }
 
-impl Part for InitDeclarators {
+impl FromValue for InitDeclarators {
     ghost kind = { specs.init_declarators };
 
-    ghost form = { λ x. value.InitDeclarators (bare_init_declarators x) };
+    ghost bare = { bare_init_declarators };
 
-    fn of(value: Value) -> Option<Self> {
+    fn from_value(_: Global, value: Value) -> Result<Self, MakeFault> {
         match value {
-            Value::InitDeclarators(x) => Some(x),
-            other => drop_other(other),
+            Value::InitDeclarators(x) => Ok(x),
+            other => refuse(other),
         }
     }
 }
 
-impl Part for LocalObject {
+impl FromValue for LocalObject {
     ghost kind = { specs.object };
 
-    ghost form = { λ x. value.Object (bare_local x) };
+    ghost bare = { bare_local };
 
-    fn of(value: Value) -> Option<Self> {
+    fn from_value(_: Global, value: Value) -> Result<Self, MakeFault> {
         match value {
-            Value::Object(x) => Some(x),
-            other => drop_other(other),
+            Value::Object(x) => Ok(x),
+            other => refuse(other),
         }
     }
 }
 
-impl Part for Stmt {
+impl FromValue for Stmt {
     ghost kind = { specs.stmt };
 
-    ghost form = { λ x. value.Stmt (bare_stmt x) };
+    ghost bare = { bare_stmt };
 
-    fn of(value: Value) -> Option<Self> {
+    fn from_value(_: Global, value: Value) -> Result<Self, MakeFault> {
         match value {
-            Value::Stmt(x) => Some(x),
-            other => drop_other(other),
+            Value::Stmt(x) => Ok(x),
+            other => refuse(other),
         }
     }
 }
 
-impl Part for Option<Box<Stmt>> {
+impl FromValue for Option<Box<Stmt>> {
     ghost kind = { specs.optional_stmt };
 
-    ghost form = { λ x. value.OptionalStmt (option_bare bare_stmt x) };
+    ghost bare = { option_bare bare_stmt };
 
-    fn of(value: Value) -> Option<Self> {
+    fn from_value(_: Global, value: Value) -> Result<Self, MakeFault> {
         match value {
-            Value::OptionalStmt(x) => Some(x),
-            other => drop_other(other),
+            Value::OptionalStmt(x) => Ok(x),
+            other => refuse(other),
         }
     }
 }
 
-impl Part for ForFirst {
+impl FromValue for ForFirst {
     ghost kind = { specs.for_first };
 
-    ghost form = { λ x. value.ForFirst (bare_for_first x) };
+    ghost bare = { bare_for_first };
 
-    fn of(value: Value) -> Option<Self> {
+    fn from_value(_: Global, value: Value) -> Result<Self, MakeFault> {
         match value {
-            Value::ForFirst(x) => Some(x),
-            other => drop_other(other),
+            Value::ForFirst(x) => Ok(x),
+            other => refuse(other),
         }
     }
 }
 
-impl Part for Items {
+impl FromValue for Items {
     ghost kind = { specs.items };
 
-    ghost form = { λ x. value.Items (bare_items x) };
+    ghost bare = { bare_items };
 
-    fn of(value: Value) -> Option<Self> {
+    fn from_value(_: Global, value: Value) -> Result<Self, MakeFault> {
         match value {
-            Value::Items(x) => Some(x),
-            other => drop_other(other),
+            Value::Items(x) => Ok(x),
+            other => refuse(other),
         }
     }
 }
 
-impl Part for ExternalRest {
+impl FromValue for Label {
+    ghost kind = { specs.label };
+
+    ghost bare = { bare_label };
+
+    fn from_value(_: Global, value: Value) -> Result<Self, MakeFault> {
+        match value {
+            Value::Label(x) => Ok(x),
+            other => refuse(other),
+        }
+    }
+}
+
+impl FromValue for SwitchItems {
+    ghost kind = { specs.switch_items };
+
+    ghost bare = { bare_switch_items };
+
+    fn from_value(_: Global, value: Value) -> Result<Self, MakeFault> {
+        match value {
+            Value::SwitchItems(x) => Ok(x),
+            other => refuse(other),
+        }
+    }
+}
+
+impl FromValue for ExternalRest {
     ghost kind = { specs.external_rest };
 
-    ghost form = { λ x. value.ExternalRest (bare_rest x) };
+    ghost bare = { bare_rest };
 
-    fn of(value: Value) -> Option<Self> {
+    fn from_value(_: Global, value: Value) -> Result<Self, MakeFault> {
         match value {
-            Value::ExternalRest(x) => Some(x),
-            other => drop_other(other),
+            Value::ExternalRest(x) => Ok(x),
+            other => refuse(other),
         }
     }
 }
 
-impl Part for Option<Items> {
+impl FromValue for Option<Items> {
     ghost kind = { specs.function_end };
 
-    ghost form = { λ x. value.FunctionEnd (option_map bare_items x) };
+    ghost bare = { option_map bare_items };
 
-    fn of(value: Value) -> Option<Self> {
+    fn from_value(_: Global, value: Value) -> Result<Self, MakeFault> {
         match value {
-            Value::FunctionEnd(x) => Some(x),
-            other => drop_other(other),
+            Value::FunctionEnd(x) => Ok(x),
+            other => refuse(other),
         }
     }
 }
 
-impl Part for Parameters {
+impl FromValue for Parameters {
     ghost kind = { specs.parameters };
 
-    ghost form = { λ x. value.Parameters (bare_parameters x) };
+    ghost bare = { bare_parameters };
 
-    fn of(value: Value) -> Option<Self> {
+    fn from_value(_: Global, value: Value) -> Result<Self, MakeFault> {
         match value {
-            Value::Parameters(x) => Some(x),
-            other => drop_other(other),
+            Value::Parameters(x) => Ok(x),
+            other => refuse(other),
         }
     }
 }
 
-impl Part for Parameter {
+impl FromValue for Parameter {
     ghost kind = { specs.parameter };
 
-    ghost form = { λ x. value.Parameter (bare_parameter x) };
+    ghost bare = { bare_parameter };
 
-    fn of(value: Value) -> Option<Self> {
+    fn from_value(_: Global, value: Value) -> Result<Self, MakeFault> {
         match value {
-            Value::Parameter(x) => Some(x),
-            other => drop_other(other),
+            Value::Parameter(x) => Ok(x),
+            other => refuse(other),
         }
     }
 }
 
-impl Part for ParameterList {
+impl FromValue for ParameterList {
     ghost kind = { specs.parameter_list };
 
-    ghost form = { λ x. value.ParameterList (bare_parameter_list x) };
+    ghost bare = { bare_parameter_list };
 
-    fn of(value: Value) -> Option<Self> {
+    fn from_value(_: Global, value: Value) -> Result<Self, MakeFault> {
         match value {
-            Value::ParameterList(x) => Some(x),
-            other => drop_other(other),
+            Value::ParameterList(x) => Ok(x),
+            other => refuse(other),
         }
     }
 }
 
-impl Part for Unit {
+impl FromValue for Unit {
     ghost kind = { specs.unit };
 
-    ghost form = { λ x. value.Unit (bare_unit x) };
+    ghost bare = { bare_unit };
 
-    fn of(value: Value) -> Option<Self> {
+    fn from_value(_: Global, value: Value) -> Result<Self, MakeFault> {
         match value {
-            Value::Unit(x) => Some(x),
-            other => drop_other(other),
+            Value::Unit(x) => Ok(x),
+            other => refuse(other),
         }
     }
 }
 
-impl Part for Units {
+impl FromValue for Units {
     ghost kind = { specs.units };
 
-    ghost form = { λ x. value.Units (bare_units x) };
+    ghost bare = { bare_units };
 
-    fn of(value: Value) -> Option<Self> {
+    fn from_value(_: Global, value: Value) -> Result<Self, MakeFault> {
         match value {
-            Value::Units(x) => Some(x),
-            other => drop_other(other),
+            Value::Units(x) => Ok(x),
+            other => refuse(other),
         }
     }
 }
 
 /// The type of a register declaration, of which nothing is kept.
-impl Part for () {
+impl FromValue for () {
     ghost kind = { specs.register_type };
 
-    ghost form = { λ _. value.RegisterType };
+    ghost bare = { λ x. x };
 
-    fn of(value: Value) -> Option<Self> {
+    fn from_value(_: Global, value: Value) -> Result<Self, MakeFault> {
         match value {
-            Value::RegisterType => Some(()),
-            other => drop_other(other),
+            Value::RegisterType => Ok(()),
+            other => refuse(other),
         }
     }
 }

@@ -1,13 +1,13 @@
 //! What productions make: names, words, parts of declarations, expressions, statements, units, and lists of them.
 
 use csyn::{
-    Base, CType, Declarator, Declarators, Expr, Exprs, ForFirst, Init, InitDeclarator,
-    InitDeclarators, Inits, IntegerWords, Items, LocalObject, Member, Members, Parameter,
-    ParameterList, Parameters, Pointer, Pointers, Stmt, Text, TypeName, Unit, Units,
+    Base, Declarator, Declarators, Expr, Exprs, ForFirst, Init, InitDeclarator, InitDeclarators,
+    Inits, IntegerWords, Items, Label, LocalObject, Member, Members, Parameter, ParameterList,
+    Parameters, Pointer, Pointers, Specifiers, Stmt, SwitchItems, Text, TypeName, Unit, Units,
 };
 
 /// What follows the name of an object that is declared at the outermost level, up to the semicolon.
-#[derive(Debug, Drop)]
+#[derive(Drop)]
 pub struct ObjectRest {
     pub lengths: Exprs,
     pub location: Option<Box<Expr>>,
@@ -16,7 +16,7 @@ pub struct ObjectRest {
 }
 
 /// What follows the name of an object or a function that is declared at the outermost level.
-#[derive(Debug, Drop)]
+#[derive(Drop)]
 pub enum ExternalRest {
     Object(ObjectRest),
     /// A function's parameters, and the items of its body if it has one.
@@ -24,14 +24,14 @@ pub enum ExternalRest {
 }
 
 /// What a production makes of its parts.
-#[derive(Debug, Drop)]
+#[derive(Drop)]
 pub enum Value {
     Text(Text),
     Expr(Expr),
     Exprs(Exprs),
     OptionalExpr(Option<Box<Expr>>),
     TypeName(TypeName),
-    CType(CType),
+    Specifiers(Specifiers),
     Base(Base),
     Words(IntegerWords),
     Qualifiers(Pointer),
@@ -50,6 +50,8 @@ pub enum Value {
     OptionalStmt(Option<Box<Stmt>>),
     ForFirst(ForFirst),
     Items(Items),
+    Label(Label),
+    SwitchItems(SwitchItems),
     RegisterType,
     ExternalRest(ExternalRest),
     FunctionEnd(Option<Items>),

@@ -29,5 +29,5 @@ by-end tokens h (inr fault) = inr (length tokens - length h.rest, fault.0)
 
 pub text-or-fault : (tokens : List Token) → EndsOnce tokens → TextOrFault tokens
 text-or-fault tokens once =
-    let h = halts tokens (start tokens).symbols [] in
+    let h = halts (start tokens) in
     by-end tokens h (first_fault sound whole tokens h.rest h.symbols h.values once h.reached h.stuck)

@@ -1,4 +1,5 @@
 pub mod Ends
+pub mod Few
 pub mod Halts
 pub mod Moved
 pub mod Place

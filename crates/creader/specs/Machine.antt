@@ -1,5 +1,5 @@
 -- How a source is read by the rules, looking one token ahead.
-use Rattle.std.specs.Prelude.{◌≡◌, ℕ, zero, suc, List, [], ◌∷◌, ◌++◌, length, Option, Some, None, if◌then◌else◌}
+use Rattle.std.specs.Prelude.{◌≡◌, ℕ, zero, suc, ◌+◌, ◌*◌, List, [], ◌∷◌, ◌++◌, length, Option, Some, None, if◌then◌else◌}
 use Rattle.csyn.specs.declared.token.Token.{Token}
 use Rattle.cgrammar.specs.declared.production.Production.{Production}
 use Rattle.cgrammar.specs.declared.production.Production.TheVariants as make
@@ -59,6 +59,19 @@ step (symbol.Read part ∷ symbols) values (token ∷ tokens) = follow_rule (cho
 pub data Reaches : State → State → Type 0 where
   here : {a : State} → Reaches a a
   next : {a b c : State} → step a.symbols a.values a.tokens ≡ Some b → Reaches b c → Reaches a c
+
+-- how many steps they are
+unfoldable pub count : {a b : State} → Reaches a b → ℕ
+count here = 0
+count (next first others) = suc (count others)
+
+-- how many steps a token may bring
+abbrev pub each_token : ℕ
+each_token = 38
+
+-- the most steps for a source of so many tokens
+abbrev pub most_steps : ℕ → ℕ
+most_steps tokens = each_token * tokens + 15
 
 -- a source and its end
 abbrev pub start : List Token → State

@@ -16,7 +16,7 @@ use Rattle.creader.specs.declared.table.expression.TheConstants.{EXPRESSION, COM
 use Rattle.creader.specs.declared.table.chain.TheConstants.{CHAIN_OR, CHAIN_TAIL_OR, CHAIN_AND, CHAIN_TAIL_AND, CHAIN_BIT_OR, CHAIN_TAIL_BIT_OR, CHAIN_BIT_XOR, CHAIN_TAIL_BIT_XOR, CHAIN_BIT_AND, CHAIN_TAIL_BIT_AND, CHAIN_EQUALITY, CHAIN_TAIL_EQUALITY, CHAIN_RELATION, CHAIN_TAIL_RELATION, CHAIN_SHIFT, CHAIN_TAIL_SHIFT, CHAIN_SUM, CHAIN_TAIL_SUM, CHAIN_PRODUCT, CHAIN_TAIL_PRODUCT}
 use Rattle.creader.specs.declared.table.types.TheConstants.{TYPE_NAME, TYPE, BASE, WORDS_SIGN, WORDS_CHAR, WORDS_LENGTH, WORDS_INT, WORDS_SIGN_CHAR, WORDS_SIGN_LENGTH, WORDS_SIGN_INT, WORDS_LENGTH_INT, WORDS_SIGN_LENGTH_INT, QUALIFIERS, POINTERS, STARS_TAIL, AFTER_STAR, POINTERS_TAIL, AFTER_NEXT_STAR}
 use Rattle.creader.specs.declared.table.declaration.TheConstants.{LENGTHS, DECLARATOR, MORE_DECLARATORS, STRUCT_MEMBER, MORE_MEMBERS, LOCATION, INITIAL, INIT, MORE_INITS, AFTER_INIT_COMMA, INIT_DECLARATOR, MORE_INIT_DECLARATORS, OBJECT}
-use Rattle.creader.specs.declared.table.statement.TheConstants.{STATEMENT, OPTIONAL_ELSE, FOR_FIRST, ITEMS}
+use Rattle.creader.specs.declared.table.statement.TheConstants.{STATEMENT, OPTIONAL_ELSE, FOR_FIRST, SWITCH_ITEMS, LABEL, MORE_SWITCH_ITEMS, ITEMS}
 use Rattle.creader.specs.declared.table.unit.TheConstants.{UNITS, UNIT, AFTER_VOLATILE, REGISTER_TYPE, AFTER_TAG, EXTERNAL_REST, FUNCTION_END, PARAMETERS, AFTER_VOID, PARAMETER, PARAMETER_TAIL, PARAMETER_AFTER_STAR, PARAMETER_END, PARAMETER_LENGTH, MORE_PARAMETERS}
 
 -- for which tokens, what becomes of the token, and what the part is replaced by
@@ -113,6 +113,9 @@ rules part.Object = map rule_of OBJECT
 rules part.Statement = map rule_of STATEMENT
 rules part.OptionalElse = map rule_of OPTIONAL_ELSE
 rules part.ForFirst = map rule_of FOR_FIRST
+rules part.SwitchItems = map rule_of SWITCH_ITEMS
+rules part.Label = map rule_of LABEL
+rules part.MoreSwitchItems = map rule_of MORE_SWITCH_ITEMS
 rules part.Items = map rule_of ITEMS
 rules part.Units = map rule_of UNITS
 rules part.Unit = map rule_of UNIT

@@ -1,8 +1,8 @@
-ghost use Rattle.std.specs.Prelude.{◌≡◌, ◌-◌, ◌<◌, ◌⊎◌, ℕ, List, [], ◌∷◌, length, None};
+ghost use Rattle.std.specs.Prelude.{◌≡◌, ◌-◌, ◌<◌, ◌≤◌, ◌⊎◌, ℕ, List, [], ◌∷◌, length, None};
 ghost use Rattle.csyn.specs.declared.token.Token.{Token};
 ghost use Rattle.creader.specs.declared.part.Symbol.{Symbol};
 ghost use Rattle.cgrammar.specs.Text.{Written, IsText, IsFirstFault};
-ghost use Rattle.creader.specs.Machine.{at, start, step, Reaches};
+ghost use Rattle.creader.specs.Machine.{State, at, start, step, Reaches, count, most_steps};
 ghost use Rattle.creader.specs.Source.{EndsOnce};
 
 /// What is read to its end is a source, of which one value is left.
@@ -32,4 +32,9 @@ pub fn one_text()
 pub fn text_or_fault()
     ensures { (tokens : List Token) → EndsOnce tokens
         → ((written : Written) × IsText written tokens) ⊎ ((place : ℕ) × IsFirstFault tokens place) }
+{}
+
+/// Reading takes a number of steps that is linear in the number of tokens, however far it comes.
+pub fn few_steps()
+    ensures { (tokens : List Token) (a : State) (reading : Reaches (start tokens) a) → count reading ≤ most_steps (length tokens) }
 {}

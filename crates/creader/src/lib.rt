@@ -9,7 +9,9 @@ mod read_fault;
 mod reader;
 mod table;
 
-pub use laws::{accepted_is_text, first_fault, one_text, text_is_accepted, text_or_fault};
+pub use laws::{
+    accepted_is_text, few_steps, first_fault, one_text, text_is_accepted, text_or_fault,
+};
 pub use read::read_entries;
 pub use read_fault::ReadFault;
 pub use reader::Entry;

@@ -62,6 +62,11 @@ pub enum Part {
     Statement,
     OptionalElse,
     ForFirst,
+    /// What stands in the braces of a `switch`.
+    SwitchItems,
+    Label,
+    /// What stands there behind a label.
+    MoreSwitchItems,
     Items,
     // units
     Units,

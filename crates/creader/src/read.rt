@@ -1,7 +1,8 @@
 //! Whole sources.
-ghost use Rattle.std.specs.Prelude.{◌≡◌, ◌<◌, ◌^◌, length, IfOk, IfErr};
+ghost use Rattle.std.specs.Prelude.{◌≡◌, ◌<◌, ◌≤◌, ◌^◌, length, IfOk, IfErr};
 ghost use Rattle.cgrammar.specs.Text.{Written, IsText};
 ghost use Rattle.creader.specs.Entries.{entries};
+ghost use Rattle.creader.specs.Machine.{most_steps};
 ghost use Rattle.creader.specs.Source.{EndsOnce, IsFaultOf};
 
 use crate::read_fault::ReadFault;
@@ -18,6 +19,7 @@ pub fn read_entries(alloc: Global, tokens: &[Token]) -> Result<Vec<Entry>, ReadF
     requires short { length tokens.now < 2 ^ 31 }
     requires ends { EndsOnce tokens.now }
     ensures entries { IfOk result (λ made. (written : Written) × IsText written tokens.now × (made.items ≡ entries 0 written)) }
+    ensures few { IfOk result (λ made. length made.items ≤ most_steps (length tokens.now)) }
     ensures fault { IfErr result (IsFaultOf tokens.now) }
 {
     let mut reader = Reader::new(alloc)?;

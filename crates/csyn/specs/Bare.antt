@@ -4,10 +4,10 @@
 use Rattle.std.specs.Prelude.{Option, Some, None}
 use Rattle.std.specs.Ptr.{null_ptr}
 use Rattle.std.specs.Global.{Box}
-use Rattle.csyn.specs.declared.ctype.Pointers as pointers
-use Rattle.csyn.specs.declared.ctype.TypeName.{TypeName}
+use Rattle.csyn.specs.declared.specifiers.Pointers as pointers
+use Rattle.csyn.specs.declared.specifiers.TypeName.{TypeName}
 use Rattle.csyn.specs.declared.expression.Expr.{Expr}
-use Rattle.csyn.specs.declared.expression.ExprKind.{ExprKind, Name, Number, Character, Index', CallFunction, Call', Member', Arrow', Postfix', Prefix', SizeofExpression', SizeofType, Cast', Binary', Conditional', Assign', AssignWith', Comma'}
+use Rattle.csyn.specs.declared.expression.ExprKind.{ExprKind, Name, Number, Character, Index', CallFunction, Call', Member', Arrow', Postfix', Prefix', SizeofExpression', SizeofType, Cast', Binary', Comparison', Logical', Conditional', Assign', AssignWith', Comma'}
 use Rattle.csyn.specs.declared.expression.Exprs as exprs
 use Rattle.csyn.specs.declared.declaration.Declarator.{Declarator}
 use Rattle.csyn.specs.declared.declaration.Declarators as declarators
@@ -26,8 +26,12 @@ use Rattle.csyn.specs.declared.declaration.Parameters.TheVariants as parameters
 use Rattle.csyn.specs.declared.statement.ForFirst.{ForFirst}
 use Rattle.csyn.specs.declared.statement.ForFirst.TheVariants as first
 use Rattle.csyn.specs.declared.statement.Stmt.{Stmt}
-use Rattle.csyn.specs.declared.statement.StmtKind.{StmtKind, Block, Expression, If', IfElse', While', Do', For', Break, Continue, Return, Region}
+use Rattle.csyn.specs.declared.statement.StmtKind.{StmtKind, Block, Expression, If', IfElse', While', Do', For', Switch, Break, Continue, Return, Region}
 use Rattle.csyn.specs.declared.statement.Items as items
+use Rattle.csyn.specs.declared.statement.Label.{Label}
+use Rattle.csyn.specs.declared.statement.LabelKind.{LabelKind}
+use Rattle.csyn.specs.declared.statement.LabelKind.TheVariants as label
+use Rattle.csyn.specs.declared.statement.SwitchItems as switch
 use Rattle.csyn.specs.declared.unit.Head.{Head}
 use Rattle.csyn.specs.declared.unit.UnitKind.{UnitKind}
 use Rattle.csyn.specs.declared.unit.UnitKind.TheVariants as kind
@@ -56,7 +60,7 @@ bare_pointers pointers.End = pointers.End
 bare_pointers (pointers.To' _ inner p) = pointers.To' nowhere (bare_pointers inner) p
 
 abbrev pub bare_type_name : TypeName → TypeName
-bare_type_name t = record { ctype = t.ctype; pointers = bare_pointers t.pointers }
+bare_type_name t = record { specifiers = t.specifiers; pointers = bare_pointers t.pointers }
 
 abbrev mutual
   pub bare_kind : ExprKind → ExprKind
@@ -74,6 +78,8 @@ abbrev mutual
   bare_kind (SizeofType t) = SizeofType (bare_type_name t)
   bare_kind (Cast' t _ m a) = Cast' (bare_type_name t) nowhere m (bare_kind a)
   bare_kind (Binary' o _ m a _ n b) = Binary' o nowhere m (bare_kind a) nowhere n (bare_kind b)
+  bare_kind (Comparison' o _ m a _ n b) = Comparison' o nowhere m (bare_kind a) nowhere n (bare_kind b)
+  bare_kind (Logical' o _ m a _ n b) = Logical' o nowhere m (bare_kind a) nowhere n (bare_kind b)
   bare_kind (Conditional' _ k c _ m a _ n b) = Conditional' nowhere k (bare_kind c) nowhere m (bare_kind a) nowhere n (bare_kind b)
   bare_kind (Assign' _ m a _ n b) = Assign' nowhere m (bare_kind a) nowhere n (bare_kind b)
   bare_kind (AssignWith' o _ m a _ n b) = AssignWith' o nowhere m (bare_kind a) nowhere n (bare_kind b)
@@ -94,7 +100,7 @@ bare_declarators declarators.End = declarators.End
 bare_declarators (declarators.More' d _ rest) = declarators.More' (box_bare bare_declarator d) nowhere (bare_declarators rest)
 
 abbrev pub bare_member : Member → Member
-bare_member m = record { ctype = m.ctype; declarators = bare_declarators m.declarators }
+bare_member m = record { specifiers = m.specifiers; declarators = bare_declarators m.declarators }
 
 abbrev pub bare_members : members.Members → members.Members
 bare_members members.End = members.End
@@ -118,13 +124,13 @@ bare_init_declarators objects.End = objects.End
 bare_init_declarators (objects.More' d _ rest) = objects.More' (box_bare bare_init_declarator d) nowhere (bare_init_declarators rest)
 
 abbrev pub bare_object : Object → Object
-bare_object o = record { ctype = o.ctype; declarators = bare_init_declarators o.declarators }
+bare_object o = record { specifiers = o.specifiers; declarators = bare_init_declarators o.declarators }
 
 abbrev pub bare_local : LocalObject → LocalObject
 bare_local o = record { mark = o.mark; object = bare_object o.object }
 
 abbrev pub bare_parameter : Parameter → Parameter
-bare_parameter p = record { ctype = p.ctype; declarator = bare_declarator p.declarator; is_open_array = p.is_open_array }
+bare_parameter p = record { specifiers = p.specifiers; declarator = bare_declarator p.declarator; is_open_array = p.is_open_array }
 
 abbrev pub bare_parameter_list : list.ParameterList → list.ParameterList
 bare_parameter_list list.End = list.End
@@ -139,6 +145,13 @@ abbrev pub bare_for_first : ForFirst → ForFirst
 bare_for_first (first.Object o) = first.Object (box_bare bare_local o)
 bare_for_first (first.Expression e) = first.Expression (option_bare bare_expr e)
 
+abbrev pub bare_label_kind : LabelKind → LabelKind
+bare_label_kind (label.Case e) = label.Case (box_bare bare_expr e)
+bare_label_kind label.Default = label.Default
+
+abbrev pub bare_label : Label → Label
+bare_label l = record { mark = l.mark; kind = bare_label_kind l.kind }
+
 abbrev mutual
   pub bare_stmt_kind : StmtKind → StmtKind
   bare_stmt_kind (Block all) = Block (bare_items all)
@@ -148,6 +161,7 @@ abbrev mutual
   bare_stmt_kind (While' c _ m s) = While' (box_bare bare_expr c) nowhere m (bare_stmt_kind s)
   bare_stmt_kind (Do' _ m s c) = Do' nowhere m (bare_stmt_kind s) (box_bare bare_expr c)
   bare_stmt_kind (For' a b c _ m s) = For' (bare_for_first a) (option_bare bare_expr b) (option_bare bare_expr c) nowhere m (bare_stmt_kind s)
+  bare_stmt_kind (Switch e all) = Switch (box_bare bare_expr e) (bare_switch_items all)
   bare_stmt_kind Break = Break
   bare_stmt_kind Continue = Continue
   bare_stmt_kind (Return e) = Return (option_bare bare_expr e)
@@ -158,11 +172,16 @@ abbrev mutual
   bare_items (items.Object' o _ rest) = items.Object' (box_bare bare_local o) nowhere (bare_items rest)
   bare_items (items.Statement' _ m s _ rest) = items.Statement' nowhere m (bare_stmt_kind s) nowhere (bare_items rest)
 
+  pub bare_switch_items : switch.SwitchItems → switch.SwitchItems
+  bare_switch_items switch.End = switch.End
+  bare_switch_items (switch.Label' l _ rest) = switch.Label' (bare_label l) nowhere (bare_switch_items rest)
+  bare_switch_items (switch.Statement' _ m s _ rest) = switch.Statement' nowhere m (bare_stmt_kind s) nowhere (bare_switch_items rest)
+
 abbrev pub bare_stmt : Stmt → Stmt
 bare_stmt s = record { mark = s.mark; kind = bare_stmt_kind s.kind }
 
 abbrev pub bare_head : Head → Head
-bare_head h = record { ctype = h.ctype; pointers = bare_pointers h.pointers; name = h.name; parameters = bare_parameters h.parameters }
+bare_head h = record { specifiers = h.specifiers; pointers = bare_pointers h.pointers; name = h.name; parameters = bare_parameters h.parameters }
 
 abbrev pub bare_unit_kind : UnitKind → UnitKind
 bare_unit_kind (kind.Struct tag all) = kind.Struct tag (bare_members all)

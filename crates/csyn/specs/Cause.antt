@@ -1,7 +1,7 @@
 -- How a cause is printed.
 use Rattle.std.specs.Prelude.{ℕ, List, codes}
 use Rattle.csyn.specs.declared.cause.Cause.{Cause}
-use Rattle.csyn.specs.declared.cause.Cause.TheVariants.{L1, L2, L3, L4, P1, P2, P3, P4, P5, P6, P7, G1, G2, G3, S1, S2, S3, S4, S5, S6, S7, S8, S9, S10, S11, S12, S13, S14, S15, S16, S17, S18, S19, S20, S21}
+use Rattle.csyn.specs.declared.cause.Cause.TheVariants.{L1, L2, L3, L4, P1, P2, P3, P4, P5, P6, P7, G1, G2, G3, S1, S2, S3, S4, S5, S6, S7, S8, S9, S10, S11, S12, S13, S14, S15, S16, S17, S18, S19, S20, S21, S22, S23, S24, S25}
 
 -- its letter and number
 abbrev pub cause_name : Cause → List ℕ
@@ -40,3 +40,7 @@ cause_name S18 = codes "S18"
 cause_name S19 = codes "S19"
 cause_name S20 = codes "S20"
 cause_name S21 = codes "S21"
+cause_name S22 = codes "S22"
+cause_name S23 = codes "S23"
+cause_name S24 = codes "S24"
+cause_name S25 = codes "S25"

@@ -1,10 +1,10 @@
--- How many levels a tree has. Nodes are units, local objects, statements, initialisers in braces and expressions. A unit stands
+-- How many levels a tree has. Nodes are units, local objects, statements, labels, initialisers in braces and expressions. A unit stands
 -- at level 1, and each other node one below the node that it is directly a part of. The block of a function or of a region is
 -- part of that node; types, declarators, lists and parameters are no nodes. The count is this project's own.
 use Rattle.std.specs.Prelude.{ℕ, ◌+◌, max, Option, Some, None}
 use Rattle.std.specs.Global.{Box}
 use Rattle.csyn.specs.declared.expression.Expr.{Expr}
-use Rattle.csyn.specs.declared.expression.ExprKind.{ExprKind, Name, Number, Character, Index', CallFunction, Call', Member', Arrow', Postfix', Prefix', SizeofExpression', SizeofType, Cast', Binary', Conditional', Assign', AssignWith', Comma'}
+use Rattle.csyn.specs.declared.expression.ExprKind.{ExprKind, Name, Number, Character, Index', CallFunction, Call', Member', Arrow', Postfix', Prefix', SizeofExpression', SizeofType, Cast', Binary', Comparison', Logical', Conditional', Assign', AssignWith', Comma'}
 use Rattle.csyn.specs.declared.expression.Exprs as exprs
 use Rattle.csyn.specs.declared.declaration.Declarator.{Declarator}
 use Rattle.csyn.specs.declared.declaration.Declarators as declarators
@@ -21,8 +21,12 @@ use Rattle.csyn.specs.declared.declaration.Parameters.TheVariants as parameters
 use Rattle.csyn.specs.declared.statement.ForFirst.{ForFirst}
 use Rattle.csyn.specs.declared.statement.ForFirst.TheVariants as first
 use Rattle.csyn.specs.declared.statement.Stmt.{Stmt}
-use Rattle.csyn.specs.declared.statement.StmtKind.{StmtKind, Block, Expression, If', IfElse', While', Do', For', Break, Continue, Return, Region}
+use Rattle.csyn.specs.declared.statement.StmtKind.{StmtKind, Block, Expression, If', IfElse', While', Do', For', Switch, Break, Continue, Return, Region}
 use Rattle.csyn.specs.declared.statement.Items as items
+use Rattle.csyn.specs.declared.statement.Label.{Label}
+use Rattle.csyn.specs.declared.statement.LabelKind.{LabelKind}
+use Rattle.csyn.specs.declared.statement.LabelKind.TheVariants as label
+use Rattle.csyn.specs.declared.statement.SwitchItems as switch
 use Rattle.csyn.specs.declared.unit.Head.{Head}
 use Rattle.csyn.specs.declared.unit.UnitKind.{UnitKind}
 use Rattle.csyn.specs.declared.unit.UnitKind.TheVariants as kind
@@ -46,6 +50,8 @@ abbrev mutual
   kind_levels (SizeofType _) = 1
   kind_levels (Cast' _ _ _ a) = 1 + kind_levels a
   kind_levels (Binary' _ _ _ a _ _ b) = 1 + max (kind_levels a) (kind_levels b)
+  kind_levels (Comparison' _ _ _ a _ _ b) = 1 + max (kind_levels a) (kind_levels b)
+  kind_levels (Logical' _ _ _ a _ _ b) = 1 + max (kind_levels a) (kind_levels b)
   kind_levels (Conditional' _ _ c _ _ a _ _ b) = 1 + max (kind_levels c) (max (kind_levels a) (kind_levels b))
   kind_levels (Assign' _ _ a _ _ b) = 1 + max (kind_levels a) (kind_levels b)
   kind_levels (AssignWith' _ _ _ a _ _ b) = 1 + max (kind_levels a) (kind_levels b)
@@ -115,6 +121,13 @@ abbrev pub for_first_levels : ForFirst → ℕ
 for_first_levels (first.Object o) = local_levels o.value
 for_first_levels (first.Expression e) = option_levels e
 
+abbrev pub label_kind_levels : LabelKind → ℕ
+label_kind_levels (label.Case e) = 1 + expr_levels e.value
+label_kind_levels label.Default = 1
+
+abbrev pub label_levels : Label → ℕ
+label_levels l = label_kind_levels l.kind
+
 abbrev mutual
   -- of a statement, by its kind
   pub stmt_kind_levels : StmtKind → ℕ
@@ -125,6 +138,7 @@ abbrev mutual
   stmt_kind_levels (While' c _ _ s) = 1 + max (expr_levels c.value) (stmt_kind_levels s)
   stmt_kind_levels (Do' _ _ s c) = 1 + max (stmt_kind_levels s) (expr_levels c.value)
   stmt_kind_levels (For' a b c _ _ s) = 1 + max (for_first_levels a) (max (option_levels b) (max (option_levels c) (stmt_kind_levels s)))
+  stmt_kind_levels (Switch e all) = 1 + max (expr_levels e.value) (switch_items_levels all)
   stmt_kind_levels Break = 1
   stmt_kind_levels Continue = 1
   stmt_kind_levels (Return e) = 1 + option_levels e
@@ -134,6 +148,11 @@ abbrev mutual
   items_levels items.End = 0
   items_levels (items.Object' o _ rest) = max (local_levels o.value) (items_levels rest)
   items_levels (items.Statement' _ _ s _ rest) = max (stmt_kind_levels s) (items_levels rest)
+
+  pub switch_items_levels : switch.SwitchItems → ℕ
+  switch_items_levels switch.End = 0
+  switch_items_levels (switch.Label' l _ rest) = max (label_levels l) (switch_items_levels rest)
+  switch_items_levels (switch.Statement' _ _ s _ rest) = max (stmt_kind_levels s) (switch_items_levels rest)
 
 abbrev pub stmt_levels : Stmt → ℕ
 stmt_levels s = stmt_kind_levels s.kind

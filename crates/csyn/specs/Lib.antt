@@ -1,6 +1,5 @@
 pub mod Bare
 pub mod Cause
-pub mod Expressions
 pub mod Keyword
 pub mod Levels
 pub mod Punctuator

@@ -54,7 +54,7 @@ pub enum Cause {
     S9,
     /// The callee can reach the calling function.
     S10,
-    /// A break or continue stands outside a loop.
+    /// A break stands outside a loop and a switch, or a continue outside a loop.
     S11,
     /// A return has a value in a void function, or none in another.
     S12,
@@ -76,6 +76,14 @@ pub enum Cause {
     S20,
     /// An initialiser has too many or wrongly nested parts.
     S21,
+    /// The expression of a switch isn't of integer type.
+    S22,
+    /// A case isn't an integer constant, or its value is that of an earlier case of the same switch.
+    S23,
+    /// There is a second default in one switch.
+    S24,
+    /// There is a 33rd case in one switch.
+    S25,
 }
 
 impl Cause {
@@ -119,6 +127,10 @@ impl Cause {
             Cause::S19 => "S19",
             Cause::S20 => "S20",
             Cause::S21 => "S21",
+            Cause::S22 => "S22",
+            Cause::S23 => "S23",
+            Cause::S24 => "S24",
+            Cause::S25 => "S25",
         }
     }
 }

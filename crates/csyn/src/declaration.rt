@@ -1,10 +1,10 @@
-use crate::ctype::{CType, Pointers};
 use crate::expression::{Expr, Exprs};
 use crate::mark::Mark;
+use crate::specifiers::{Pointers, Specifiers};
 use crate::text::Text;
 
 /// A declared name with its pointers and array lengths (C99 6.7.5).
-#[derive(Debug, Drop)]
+#[derive(Drop)]
 pub struct Declarator {
     pub pointers: Pointers,
     pub name: Text,
@@ -12,7 +12,6 @@ pub struct Declarator {
     pub lengths: Exprs,
 }
 
-#[derive(Debug)]
 pub enum Declarators {
     End,
     More(Box<Declarator>, Box<Declarators>),
@@ -30,13 +29,12 @@ impl Drop for Declarators {
 }
 
 /// A declaration of members of a struct (C99 6.7.2.1).
-#[derive(Debug, Drop)]
+#[derive(Drop)]
 pub struct Member {
-    pub ctype: CType,
+    pub specifiers: Specifiers,
     pub declarators: Declarators,
 }
 
-#[derive(Debug)]
 pub enum Members {
     End,
     More(Box<Member>, Box<Members>),
@@ -55,7 +53,7 @@ impl Drop for Members {
 
 /// An initialiser (C99 6.7.8).
 #[cycle(init)]
-#[derive(Debug, Drop)]
+#[derive(Drop)]
 pub enum Init {
     Expression(Box<Expr>),
     /// Initialisers in braces, which are a node.
@@ -63,7 +61,6 @@ pub enum Init {
 }
 
 #[cycle(init)]
-#[derive(Debug)]
 pub enum Inits {
     End,
     More(Box<Init>, Box<Inits>),
@@ -82,14 +79,13 @@ impl Drop for Inits {
 }
 
 /// A declarator of an object, with its location where it is placed at an address, and its first value.
-#[derive(Debug, Drop)]
+#[derive(Drop)]
 pub struct InitDeclarator {
     pub declarator: Declarator,
     pub location: Option<Box<Expr>>,
     pub init: Option<Box<Init>>,
 }
 
-#[derive(Debug)]
 pub enum InitDeclarators {
     End,
     More(Box<InitDeclarator>, Box<InitDeclarators>),
@@ -107,29 +103,28 @@ impl Drop for InitDeclarators {
 }
 
 /// A declaration of objects (C99 6.7).
-#[derive(Debug, Drop)]
+#[derive(Drop)]
 pub struct Object {
-    pub ctype: CType,
+    pub specifiers: Specifiers,
     pub declarators: InitDeclarators,
 }
 
 /// A declaration of objects inside a function, which is a node.
-#[derive(Debug, Drop)]
+#[derive(Drop)]
 pub struct LocalObject {
     pub mark: Mark,
     pub object: Object,
 }
 
 /// A parameter of a function (C99 6.7.5.3).
-#[derive(Debug, Drop)]
+#[derive(Drop)]
 pub struct Parameter {
-    pub ctype: CType,
+    pub specifiers: Specifiers,
     pub declarator: Declarator,
     /// Whether it is an array without a length, as `T p[]`. It has no lengths then.
     pub is_open_array: bool,
 }
 
-#[derive(Debug)]
 pub enum ParameterList {
     End,
     More(Box<Parameter>, Box<ParameterList>),
@@ -146,7 +141,7 @@ impl Drop for ParameterList {
     }
 }
 
-#[derive(Debug, Drop)]
+#[derive(Drop)]
 pub enum Parameters {
     /// `()`
     Empty,

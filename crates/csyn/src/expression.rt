@@ -1,19 +1,21 @@
-use crate::ctype::TypeName;
 use crate::mark::Mark;
-use crate::operator::{BinaryOperator, PostfixOperator, PrefixOperator};
+use crate::operator::{
+    BinaryOperator, ComparisonOperator, LogicalOperator, PostfixOperator, PrefixOperator,
+};
+use crate::specifiers::TypeName;
 use crate::text::Text;
 use crate::token::{Character, Number};
 
 /// An expression (C99 6.5).
 #[cycle(expr)]
-#[derive(Debug, Drop)]
+#[derive(Drop)]
 pub struct Expr {
     pub mark: Mark,
     pub kind: ExprKind,
 }
 
 #[cycle(expr)]
-#[derive(Debug, Drop)]
+#[derive(Drop)]
 pub enum ExprKind {
     Name(Text),
     Number(Number),
@@ -34,6 +36,9 @@ pub enum ExprKind {
     SizeofType(TypeName),
     Cast(TypeName, Box<Expr>),
     Binary(BinaryOperator, Box<Expr>, Box<Expr>),
+    Comparison(ComparisonOperator, Box<Expr>, Box<Expr>),
+    /// `a && b` or `a || b`, which evaluates `b` only where `a` leaves it open.
+    Logical(LogicalOperator, Box<Expr>, Box<Expr>),
     /// `a ? b : c`
     Conditional(Box<Expr>, Box<Expr>, Box<Expr>),
     Assign(Box<Expr>, Box<Expr>),
@@ -45,7 +50,6 @@ pub enum ExprKind {
 
 /// Expressions in a row: the arguments of a call, or the lengths of an array.
 #[cycle(expr)]
-#[derive(Debug)]
 pub enum Exprs {
     End,
     More(Box<Expr>, Box<Exprs>),

@@ -54,9 +54,7 @@ impl Keyword {
             self,
             Keyword::Auto
                 | Keyword::Boolean
-                | Keyword::Case
                 | Keyword::Complex
-                | Keyword::Default
                 | Keyword::Double
                 | Keyword::Enum
                 | Keyword::Extern
@@ -64,7 +62,6 @@ impl Keyword {
                 | Keyword::Goto
                 | Keyword::Imaginary
                 | Keyword::Restrict
-                | Keyword::Switch
                 | Keyword::Typedef
                 | Keyword::Union
         )

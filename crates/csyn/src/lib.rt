@@ -2,16 +2,15 @@
 #![tactic(auto)]
 
 mod cause;
-mod ctype;
 mod declaration;
 mod expression;
 mod fault;
 mod keyword;
-mod lookup;
 mod mark;
 mod operator;
 mod punctuator;
 mod span;
+mod specifiers;
 mod statement;
 mod text;
 mod token;
@@ -19,9 +18,6 @@ mod tree;
 mod unit;
 
 pub use cause::Cause;
-pub use ctype::{
-    Base, CType, IntegerWords, Length, Pointer, Pointers, Sign, StandardInteger, TypeName,
-};
 pub use declaration::{
     Declarator, Declarators, Init, InitDeclarator, InitDeclarators, Inits, LocalObject, Member,
     Members, Object, Parameter, ParameterList, Parameters,
@@ -30,13 +26,18 @@ pub use expression::{Expr, ExprKind, Exprs};
 pub use fault::SourceFault;
 pub use keyword::{KEYWORDS, Keyword};
 pub use mark::Mark;
-pub use operator::{BinaryOperator, PostfixOperator, PrefixOperator};
+pub use operator::{
+    BinaryOperator, ComparisonOperator, LogicalOperator, PostfixOperator, PrefixOperator,
+};
 pub use punctuator::{PUNCTUATORS, Punctuator};
 pub use span::Span;
-pub use statement::{ForFirst, Items, Stmt, StmtKind};
+pub use specifiers::{
+    Base, IntegerWords, Length, Pointer, Pointers, Sign, Specifiers, StandardInteger, TypeName,
+};
+pub use statement::{ForFirst, Items, Label, LabelKind, Stmt, StmtKind, SwitchItems};
 pub use text::Text;
 pub use token::{Character, Number, Token, TokenKind};
-pub use tree::{ExprId, MAX_LEVELS, MAX_TOKENS, Tree};
+pub use tree::{MAX_LEVELS, MAX_TOKENS, Tree};
 pub use unit::{Head, Unit, UnitKind, Units};
 
 #[cfg(test)]

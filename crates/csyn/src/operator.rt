@@ -18,7 +18,7 @@ pub enum PostfixOperator {
     Decrement,
 }
 
-/// An operator between two operands (C99 6.5.5 to 6.5.14).
+/// An operator between two operands that an assignment may do on the way (C99 6.5.5 to 6.5.7, 6.5.10 to 6.5.12).
 #[derive(Clone, Copy, Debug, PartialEq, Eq)]
 pub enum BinaryOperator {
     Multiply,
@@ -28,15 +28,25 @@ pub enum BinaryOperator {
     Subtract,
     ShiftLeft,
     ShiftRight,
+    BitAnd,
+    BitXor,
+    BitOr,
+}
+
+/// A comparison of two operands (C99 6.5.8 and 6.5.9).
+#[derive(Clone, Copy, Debug, PartialEq, Eq)]
+pub enum ComparisonOperator {
     Less,
     Greater,
     LessEqual,
     GreaterEqual,
     Equal,
     NotEqual,
-    BitAnd,
-    BitXor,
-    BitOr,
+}
+
+/// `&&` or `||` (C99 6.5.13 and 6.5.14).
+#[derive(Clone, Copy, Debug, PartialEq, Eq)]
+pub enum LogicalOperator {
     And,
     Or,
 }

@@ -1,7 +1,7 @@
-use crate::ctype::StandardInteger;
 use crate::keyword::Keyword;
 use crate::punctuator::Punctuator;
 use crate::span::Span;
+use crate::specifiers::StandardInteger;
 use crate::text::Text;
 
 /// A token of a source.

@@ -1,10 +1,6 @@
 ghost use Rattle.std.specs.Prelude.{◌≡◌};
-ghost use Rattle.std.specs.Option.{option_copied};
-ghost use Rattle.csyn.specs.Expressions.{numbered, units_expressions};
 ghost use Rattle.csyn.specs.Tree.{IsTree};
 
-use crate::expression::Expr;
-use crate::lookup;
 use crate::span::Span;
 use crate::unit::Units;
 use std::marker::Model;
@@ -15,12 +11,8 @@ pub const MAX_TOKENS: u32 = 100_000;
 /// The most levels that a tree has.
 pub const MAX_LEVELS: u32 = 256;
 
-/// The number of an expression node of a tree.
-#[derive(Clone, Copy, Debug, PartialEq, Eq, PartialOrd, Ord, Hash)]
-pub struct ExprId(pub u32);
-
 /// A source as a tree. It was made of at most 100,000 tokens, the end token aside, and has at most 256 levels.
-#[derive(Debug, Drop)]
+#[derive(Drop)]
 pub struct Tree {
     units: Units,
     tokens: u32,
@@ -83,12 +75,5 @@ impl Tree {
         ensures { result ≡ self.now.end }
     {
         self.end
-    }
-
-    /// The expression with this number, the first of them where it has several.
-    pub fn expression(&self, id: ExprId) -> Option<&Expr>
-        ensures { option_copied result ≡ numbered id.0 (units_expressions self.now.units) }
-    {
-        lookup::in_units(&self.units, id.0)
     }
 }

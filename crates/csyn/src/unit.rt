@@ -1,19 +1,19 @@
-use crate::ctype::{CType, Pointers};
 use crate::declaration::{Members, Object, Parameters};
 use crate::mark::Mark;
+use crate::specifiers::{Pointers, Specifiers};
 use crate::statement::Items;
 use crate::text::Text;
 
 /// What a function's prototype and its definition begin with.
-#[derive(Debug, Drop)]
+#[derive(Drop)]
 pub struct Head {
-    pub ctype: CType,
+    pub specifiers: Specifiers,
     pub pointers: Pointers,
     pub name: Text,
     pub parameters: Parameters,
 }
 
-#[derive(Debug, Drop)]
+#[derive(Drop)]
 pub enum UnitKind {
     /// A struct by its tag, and its members.
     Struct(Text, Members),
@@ -25,13 +25,12 @@ pub enum UnitKind {
 }
 
 /// A declaration or definition at the outermost level (C99 6.9).
-#[derive(Debug, Drop)]
+#[derive(Drop)]
 pub struct Unit {
     pub mark: Mark,
     pub kind: UnitKind,
 }
 
-#[derive(Debug)]
 pub enum Units {
     End,
     More(Box<Unit>, Box<Units>),

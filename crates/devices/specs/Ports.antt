@@ -9,7 +9,8 @@ pad_at banks bank reg = slice_index (slice_index_or banks bank []) reg
 abbrev pub with_pad : List (List ℕ) → ℕ → ℕ → ℕ → List (List ℕ)
 with_pad banks bank reg value = slice_set banks bank (slice_set (slice_index_or banks bank []) reg value)
 
--- what each core's input pins show, and what it puts out
+-- What each core's input pins show, and its output register. Bits 0 to 15 of that are the output pins, and the upper 16
+-- lead to no pin.
 pub record Levels : Type 0 where
   pub inputs : List ℕ
   pub outputs : List ℕ

@@ -2,7 +2,8 @@ ghost use Rattle.std.specs.Prelude.{◌≡◌, ◌<◌, replicate, slice_index, 
 
 use std::marker::Model;
 
-/// The pins of the two cores: 16 that each reads, and 32 that it puts out.
+/// The pins of the two cores. Each reads 16 of them. What it puts out are the 32 bits of its output register: bits 0 to
+/// 15 are its 16 output pins, and the upper 16 lead to no pin and are only kept, so that the register can be read back.
 #[derive(Clone, Copy, Debug, PartialEq, Eq)]
 pub struct Pins {
     inputs: [u16; 2],
@@ -46,6 +47,7 @@ impl Pins {
         self.inputs[usize::from(core)] = v;
     }
 
+    /// The output register: its lower 16 bits are the pins.
     pub fn output(&self, core: u8) -> u32
         requires { core < 2 }
         ensures { result ≡ slice_index self.now.outputs core }

@@ -1,8 +1,9 @@
 -- The fields of a record: numbers of one, two or four bytes, one behind the other, the lowest byte first.
 -- ELF specification, book I, "Data Representation" and the encoding ELFDATA2LSB.
-use Rattle.std.specs.Prelude.{ℕ, ◌<◌, ◌^◌, List, take, drop}
+use Rattle.std.specs.Prelude.{ℕ, ◌<◌, ◌^◌, List}
 use Rattle.std.specs.List.{flat_map, AllByRecursion}
-use Rattle.std.specs.Int.{Width, byte_len, to_le_bytes, from_le_bytes}
+use Rattle.std.specs.Int.{Width, byte_len, to_le_bytes}
+pub use Rattle.prunum.specs.Bytes.{number_at}
 
 -- how wide a field is, and its number
 abbrev pub Field : Type 0
@@ -17,7 +18,3 @@ FieldsFit fields = AllByRecursion FieldFits fields
 -- the bytes of the fields
 abbrev pub fields_bytes : List Field → List ℕ
 fields_bytes fields = flat_map (λ f. to_le_bytes f.0 f.1) fields
-
--- the number that stands in the bytes from this place on
-abbrev pub number_at : Width → ℕ → List ℕ → ℕ
-number_at w at bytes = from_le_bytes w (take (byte_len w) (drop at bytes))

@@ -1,10 +1,10 @@
 ghost use Rattle.std.specs.Prelude.{◌≡◌, ◌≤◌, length, take};
 ghost use Rattle.elfrec.specs.Header.{header_format, HeaderFits};
 
-use crate::record::{Record, append_halves, append_words, u16_at, u32_at};
+use crate::record::Record;
 use crate::section::Section;
 use crate::segment::Segment;
-use prunum::Memory;
+use prunum::{Memory, append_halves, append_words, u16_at, u32_at};
 
 /// The ELF header, with which a file begins.
 #[derive(Clone, Copy, Debug, PartialEq, Eq)]

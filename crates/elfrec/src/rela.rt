@@ -1,8 +1,8 @@
 ghost use Rattle.std.specs.Prelude.{◌≡◌};
 ghost use Rattle.elfrec.specs.Rela.{rela_format, RelaFits};
 
-use crate::record::{Record, append_words, u32_at};
-use prunum::Memory;
+use crate::record::Record;
+use prunum::{Memory, append_words, u32_at};
 
 /// A relocation with an addend.
 #[derive(Clone, Copy, Debug, PartialEq, Eq)]

@@ -2,11 +2,11 @@ ghost use Rattle.std.specs.Prelude.{◌≡◌};
 ghost use Rattle.elfrec.specs.Section.{section_format, SectionFits, kind_of};
 
 use crate::flags::SectionFlags;
-use crate::record::{Record, append_words, u32_at};
+use crate::record::Record;
 use crate::rela::Rela;
 use crate::symbol::Symbol;
 use bitflags::Flags;
-use prunum::Memory;
+use prunum::{Memory, append_words, u32_at};
 
 /// A section header.
 #[derive(Clone, Copy, Debug, PartialEq, Eq)]

@@ -1,8 +1,8 @@
 ghost use Rattle.std.specs.Prelude.{◌≡◌};
 ghost use Rattle.elfrec.specs.Symbol.{symbol_format, SymbolFits};
 
-use crate::record::{Record, append_halves, append_words, u16_at, u32_at};
-use prunum::Memory;
+use crate::record::Record;
+use prunum::{Memory, append_halves, append_words, u16_at, u32_at};
 
 /// An entry of a symbol table.
 #[derive(Clone, Copy, Debug, PartialEq, Eq)]

@@ -1,5 +1,5 @@
 -- The instruction that has a word: the word table, read from the word. The table decides; that this undoes it is proved.
-use Rattle.std.specs.Prelude.{◌≡◌, ◌≢◌, ℕ, ◌+◌, ◌*◌, ◌/◌, ◌%◌, ◌^◌, ◌==◌, ◌&&◌, ◌||◌, Bool, true, false, IsTrue, nat_lt, nat_le, if◌then◌else◌, refl, Option, Some, None, option_and_then}
+use Rattle.std.specs.Prelude.{◌≡◌, ◌≢◌, ℕ, ◌+◌, ◌*◌, ◌/◌, ◌%◌, ◌^◌, ◌==◌, ◌&&◌, ◌||◌, Bool, true, false, IsTrue, nat_lt, nat_le, if◌then◌else◌, refl, Option, Some, None, option_and_then, unwrap_or, find, [], ◌∷◌}
 use Rattle.isa.specs.declared.access.Access.{Access}
 use Rattle.isa.specs.declared.access.Base.{Base}
 use Rattle.isa.specs.declared.access.Base.TheVariants as base
@@ -26,35 +26,24 @@ use Rattle.isa.specs.declared.transfer.Bank.TheVariants.{Bank0, Bank1, Bank2}
 use Rattle.isa.specs.declared.transfer.Transfer.{Transfer}
 use Rattle.isa.specs.Low.{is_low_base, is_low_operand}
 use Rattle.isa.specs.Ranges
-use Rattle.isa.specs.Row.{field_code}
+use Rattle.isa.specs.Row.{part_number, op_number, condition_number, device_number, constant_number, field_code}
 
 -- ---- what the numbers stand for
 
 abbrev pub part_at : ℕ → Part
-part_at k =
-    if k == 0 then B0 else if k == 1 then B1 else if k == 2 then B2 else if k == 3 then B3
-    else if k == 4 then W0 else if k == 5 then W1 else if k == 6 then W2 else All
+part_at k = unwrap_or (find (λ p. k == part_number p) (B0 ∷ B1 ∷ B2 ∷ B3 ∷ W0 ∷ W1 ∷ W2 ∷ [])) All
 
 abbrev pub op_at : ℕ → Option AluOp
-op_at k =
-    if k == 0 then Some Add else if k == 2 then Some Sub else if k == 4 then Some Lsl else if k == 5 then Some Lsr
-    else if k == 6 then Some Rsb else if k == 8 then Some And else if k == 9 then Some Or else if k == 10 then Some Xor
-    else if k == 12 then Some Min else if k == 13 then Some Max else if k == 14 then Some Clr else if k == 15 then Some Set
-    else None
+op_at k = find (λ op. k == op_number op) (Add ∷ Sub ∷ Lsl ∷ Lsr ∷ Rsb ∷ And ∷ Or ∷ Xor ∷ Min ∷ Max ∷ Clr ∷ Set ∷ [])
 
 abbrev pub condition_at : ℕ → Option Condition
-condition_at k =
-    if k == 0b01001 then Some Lt else if k == 0b01010 then Some Eq else if k == 0b01011 then Some Le
-    else if k == 0b01100 then Some Gt else if k == 0b01101 then Some Ne else if k == 0b01110 then Some Ge
-    else if k == 0b11001 then Some BitClear else if k == 0b11010 then Some BitSet else None
+condition_at k = find (λ c. k == condition_number c) (Lt ∷ Eq ∷ Le ∷ Gt ∷ Ne ∷ Ge ∷ BitClear ∷ BitSet ∷ [])
 
 abbrev pub bank_at : ℕ → Option Bank
-bank_at k = if k == 10 then Some Bank0 else if k == 11 then Some Bank1 else if k == 12 then Some Bank2 else None
+bank_at k = find (λ b. k == device_number b) (Bank0 ∷ Bank1 ∷ Bank2 ∷ [])
 
 abbrev pub constant_at : ℕ → Option Constant
-constant_at k =
-    if k == 0 then Some C0 else if k == 4 then Some C4 else if k == 24 then Some C24
-    else if k == 25 then Some C25 else if k == 28 then Some C28 else None
+constant_at k = find (λ c. k == constant_number c) (C0 ∷ C4 ∷ C24 ∷ C25 ∷ C28 ∷ [])
 
 -- ---- operands
 

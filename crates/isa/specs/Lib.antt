@@ -1,8 +1,11 @@
+pub mod Constants
 pub mod Decoded
 pub mod Fitted
 pub mod Image
+pub mod Judging
 pub mod Low
 pub mod Note
 pub mod Program
 pub mod Ranges
+pub mod Relocations
 pub mod Row

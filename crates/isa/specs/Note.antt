@@ -1,5 +1,5 @@
 -- Notes on words, this project's own: which values they have and where each may stand.
-use Rattle.std.specs.Prelude.{ℕ, ◌^◌, ◌<◌, ◌==◌, ◌&&◌, ◌||◌, Bool, true, false, IsTrue, nat_lt, nat_le, if◌then◌else◌, Option, Some, None, IsSomeAnd, List, [], ◌∷◌, length, slice_index, pos, ◌+ℤ◌, unsigned_abs}
+use Rattle.std.specs.Prelude.{ℕ, ◌^◌, ◌<◌, ◌==◌, ◌&&◌, ◌||◌, Bool, true, false, IsTrue, nat_lt, nat_le, Option, IsSomeAnd, find, List, [], ◌∷◌, length, slice_index, pos, ◌+ℤ◌, unsigned_abs}
 use Rattle.std.specs.Int.{int_rem_euclid}
 use Rattle.isa.specs.declared.control.BranchOffset.{BranchOffset}
 use Rattle.isa.specs.declared.control.Jump.TheVariants as jump
@@ -20,9 +20,7 @@ kind_number Return = 6
 kind_number Turns = 7
 
 abbrev pub kind_at : ℕ → Option NoteKind
-kind_at n =
-    if n == 1 then Some Enter else if n == 2 then Some DelayIn else if n == 3 then Some DelayOut else if n == 4 then Some Leave
-    else if n == 5 then Some Own else if n == 6 then Some Return else if n == 7 then Some Turns else None
+kind_at n = find (λ k. n == kind_number k) (Enter ∷ DelayIn ∷ DelayOut ∷ Leave ∷ Own ∷ Return ∷ Turns ∷ [])
 
 abbrev pub is_delay : ℕ → Bool
 is_delay n = nat_le 1 n && nat_le n 1000000

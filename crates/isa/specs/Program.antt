@@ -1,5 +1,5 @@
 -- What it is for an assembly program to be whole, this project's own.
-use Rattle.std.specs.Prelude.{◌≡◌, ℕ, ◌==◌, ◌&&◌, Bool, true, false, not, IsTrue, nat_eq, ℤ, List, [], ◌∷◌, All, Contains, pos, negsuc}
+use Rattle.std.specs.Prelude.{◌≡◌, ℕ, ◌==◌, ◌&&◌, Bool, true, false, not, IsTrue, nat_eq, ℤ, List, [], ◌∷◌, ◌++◌, All, Contains, pos, negsuc}
 use Rattle.std.specs.List.{list_any, IsDistinct}
 use Rattle.isa.specs.declared.control.BranchOffset.{BranchOffset}
 use Rattle.isa.specs.declared.control.Jump.TheVariants as jump
@@ -101,7 +101,7 @@ may_aim before DelayOut i t = true
 may_aim before Leave i t = true
 may_aim before Own i t = false
 may_aim before Return i t = false
-may_aim before Turns i (target.Label l) = is_branch i && list_any (λ m. m == l) before
+may_aim before Turns i (target.Label l) = is_branch i && list_any (nat_eq l) before
 may_aim before Turns i (target.Symbol s k) = is_branch i
 
 -- whether a note may stand on an instruction without a target
@@ -121,7 +121,7 @@ NotesStand before kinds [] = kinds ≡ []
 NotesStand before kinds (item.Label l ∷ items) = NotesStand (l ∷ before) kinds items
 NotesStand before kinds (item.Source n ∷ items) = NotesStand before kinds items
 NotesStand before kinds (item.Note k v ∷ items) =
-    IsTrue (value_fits k v) × ¬ Contains kinds k × NotesStand before (k ∷ kinds) items
+    IsTrue (value_fits k v) × ¬ Contains kinds k × NotesStand before (kinds ++ k ∷ []) items
 NotesStand before kinds (item.Whole i ∷ items) = All (λ k. IsTrue (may_rest k i)) kinds × NotesStand before [] items
 NotesStand before kinds (item.Aimed i t ∷ items) = All (λ k. IsTrue (may_aim before k i t)) kinds × NotesStand before [] items
 

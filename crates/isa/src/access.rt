@@ -1,6 +1,7 @@
 //! Accesses to memory.
 
-ghost use Rattle.std.specs.Prelude.{◌+◌, ◌*◌, ◌<◌, ◌≤◌, IsTrue};
+ghost use Rattle.std.specs.Prelude.{◌≡◌, ◌+◌, ◌*◌, ◌<◌, ◌≤◌, IsTrue};
+ghost use Rattle.isa.specs.Constants.{address_of};
 ghost use Rattle.isa.specs.Low.{is_low_base, is_low_operand};
 
 use crate::field::Operand;
@@ -18,6 +19,21 @@ pub enum Constant {
     C25,
     /// 0x10000, the shared RAM
     C28,
+}
+
+impl Constant {
+    /// The address that it stands for, as the core sees it.
+    pub fn address(self) -> u32
+        ensures { result ≡ address_of self }
+    {
+        match self {
+            Constant::C0 => 0x2_0000,
+            Constant::C4 => 0x2_6000,
+            Constant::C24 => 0,
+            Constant::C25 => 0x2000,
+            Constant::C28 => 0x1_0000,
+        }
+    }
 }
 
 /// What an address is counted from: a register below R30, or a constant.

@@ -14,6 +14,7 @@ mod row;
 #[cfg(test)]
 mod tests;
 mod transfer;
+mod whole;
 
 pub use access::{Access, Base, Constant};
 pub use control::{BranchOffset, Condition, Jump, LoopBody};
@@ -25,3 +26,4 @@ pub use inst::{AluOp, Inst};
 pub use note::{Note, NoteKind};
 pub use program::{AsmProgram, Item, Line, Ref, Relocation, Target, Words};
 pub use transfer::{Bank, Transfer};
+pub use whole::is_whole;

@@ -1,7 +1,9 @@
 //! Assembly programs with labels and symbols, and the words that are made of them.
 
-ghost use Rattle.std.specs.Prelude.{◌≡◌};
+ghost use Rattle.std.specs.Prelude.{◌≡◌, ◌<◌, IfSome, Some};
+ghost use Rattle.isa.specs.declared.program.Relocation.{Relocation};
 ghost use Rattle.isa.specs.Fitted.{Fitted};
+ghost use Rattle.isa.specs.Relocations.{relocation_number};
 
 use crate::inst::Inst;
 use crate::note::{Note, NoteKind};
@@ -18,6 +20,35 @@ pub enum Relocation {
     High,
     /// 4: the word's number, in a JMP or JAL to a number
     Word,
+}
+
+impl Relocation {
+    /// Its number in files, 1 to 4.
+    pub fn number(self) -> u8
+        ensures value { result ≡ relocation_number self }
+        ensures bound { result < 5 }
+    {
+        match self {
+            Relocation::Address => 1,
+            Relocation::Low => 2,
+            Relocation::High => 3,
+            Relocation::Word => 4,
+        }
+    }
+
+    /// The relocation with this number, and None where there is none.
+    pub fn from_number(n: u8) -> Option<Relocation>
+        ensures found { IfSome result (λ k. relocation_number k ≡ n) }
+        ensures only { (k : Relocation) → relocation_number k ≡ n → result ≡ Some k }
+    {
+        match n {
+            1 => Some(Relocation::Address),
+            2 => Some(Relocation::Low),
+            3 => Some(Relocation::High),
+            4 => Some(Relocation::Word),
+            _ => None,
+        }
+    }
 }
 
 /// Where an instruction goes, or what it takes a part of.

@@ -1,7 +1,7 @@
 use crate::{
     Access, AluOp, AsmProgram, Bank, Base, BranchOffset, Condition, Constant, Field, Image, Inst,
-    Item, Jump, LoopBody, Note, NoteKind, Operand, Part, Target, Transfer, Words, decode, encode,
-    is_image, is_placed,
+    Item, Jump, LoopBody, Note, NoteKind, Operand, Part, Relocation, Target, Transfer, Words,
+    decode, encode, is_image, is_placed, is_whole,
 };
 use std::test::Fail;
 
@@ -397,5 +397,54 @@ fn lists(rt: HostRuntime) -> Result<(), Fail> {
         (0, 0, 0)
     );
     assert_eq!(rt; words.into_parts().0.pop(), Some(0x2a00_0000));
+    Ok(())
+}
+
+#[test]
+fn relocations(rt: HostRuntime) {
+    for (n, kind) in [
+        (0, None),
+        (1, Some(Relocation::Address)),
+        (2, Some(Relocation::Low)),
+        (3, Some(Relocation::High)),
+        (4, Some(Relocation::Word)),
+        (5, None),
+    ] {
+        assert!(rt; Relocation::from_number(n) == kind, "{n}");
+    }
+}
+
+// a loop of two words whose last one goes back, and what is wrong without a line of it
+#[test]
+fn whole(rt: HostRuntime) -> Result<(), Fail> {
+    let alloc = rt.alloc();
+    let body = LoopBody {
+        count: 3,
+        length: 1,
+    };
+    let back = BranchOffset { words: -512 };
+    let program = [
+        Item::Aimed {
+            inst: Inst::Loop { body },
+            target: Target::Label(2),
+        },
+        Item::Label(1),
+        Item::Note {
+            kind: NoteKind::Turns,
+            value: 4,
+        },
+        Item::Aimed {
+            inst: Inst::Qba { offset: back },
+            target: Target::Label(1),
+        },
+        Item::Label(2),
+        Item::Whole(Inst::Halt),
+    ];
+    assert!(rt; is_whole(alloc, &program)?);
+    assert!(rt; !is_whole(alloc, &program[..4])?, "no end of the loop");
+    assert!(rt; !is_whole(alloc, &program[2..])?, "a note before its label");
+    assert!(rt; !is_whole(alloc, &program[..3])?, "a note on no word");
+    let twice = [Item::Label(1), Item::Label(1)];
+    assert!(rt; !is_whole(alloc, &twice)?);
     Ok(())
 }

@@ -3,7 +3,7 @@ use Rattle.std.proofs.Common.{◌≡◌, ℕ, ◌+◌, List, [], ◌∷◌, code
 use Rattle.std.specs.Prelude.{◌&&◌, nat_lt, if◌then◌else◌, is_some}
 use Rattle.std.specs.Str.{bytes_eq}
 use Rattle.csyn.specs.declared.span.Span.{Span}
-use Rattle.csyn.specs.declared.ctype.Pointers as pointers
+use Rattle.csyn.specs.declared.specifiers.Pointers as pointers
 use Rattle.csyn.specs.declared.declaration.Parameters.{Parameters}
 use Rattle.csyn.specs.declared.declaration.Parameters.TheVariants as parameters
 use Rattle.csyn.specs.declared.expression.ExprKind.{ExprKind, Name, Number, CallFunction, Assign'}
@@ -93,7 +93,7 @@ void-bare (parameters.Some _) = refl
 
 head-bare : (head : Head) → is_main (bare_head head) ≡ is_main head
 unfolding is_main
-head-bare head = λ i. is_plain_void head.ctype && (pointers-bare head.pointers i && (bytes_eq head.name (codes "main") && void-bare head.parameters i))
+head-bare head = λ i. is_plain_void head.specifiers && (pointers-bare head.pointers i && (bytes_eq head.name (codes "main") && void-bare head.parameters i))
 
 unit-bare : (end begin : Span) (k : UnitKind) (rest : units.Units) → unit_departure end begin (bare_unit_kind k) (bare_units rest) ≡ unit_departure end begin k rest
 unit-bare end begin (kind.Function head body) units.End = λ i. if head-bare head i then body-bare end 0 body i else Some begin

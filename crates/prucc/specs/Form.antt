@@ -4,10 +4,10 @@ use Rattle.std.specs.Prelude.{◌≡◌, ℕ, ◌+◌, ◌^◌, ◌<◌, ◌≤�
 use Rattle.std.specs.List.{AllByRecursion}
 use Rattle.std.specs.Str.{bytes_eq}
 use Rattle.csyn.specs.declared.span.Span.{Span}
-use Rattle.csyn.specs.declared.ctype.Base.{Base}
-use Rattle.csyn.specs.declared.ctype.Base.TheVariants.{Void}
-use Rattle.csyn.specs.declared.ctype.CType.{CType}
-use Rattle.csyn.specs.declared.ctype.Pointers as pointers
+use Rattle.csyn.specs.declared.specifiers.Base.{Base}
+use Rattle.csyn.specs.declared.specifiers.Base.TheVariants.{Void}
+use Rattle.csyn.specs.declared.specifiers.Specifiers.{Specifiers}
+use Rattle.csyn.specs.declared.specifiers.Pointers as pointers
 use Rattle.csyn.specs.declared.declaration.Parameters.{Parameters}
 use Rattle.csyn.specs.declared.declaration.Parameters.TheVariants as parameters
 use Rattle.csyn.specs.declared.expression.ExprKind.{ExprKind, Name, Number, CallFunction, Assign'}
@@ -36,7 +36,7 @@ is_void Void = true
 is_void _ = false
 
 -- `void`, with nothing beside it
-abbrev pub is_plain_void : CType → Bool
+abbrev pub is_plain_void : Specifiers → Bool
 is_plain_void t = is_void t.base && (not t.is_static && (not t.is_inline && (not t.is_const && not t.is_volatile)))
 
 abbrev pub has_no_pointers : pointers.Pointers → Bool
@@ -50,7 +50,7 @@ takes_void _ = false
 
 -- `void main(void)`
 unfoldable pub is_main : Head → Bool
-is_main head = is_plain_void head.ctype && (has_no_pointers head.pointers && (bytes_eq head.name (codes "main") && takes_void head.parameters))
+is_main head = is_plain_void head.specifiers && (has_no_pointers head.pointers && (bytes_eq head.name (codes "main") && takes_void head.parameters))
 
 -- ---- the items
 

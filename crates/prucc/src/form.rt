@@ -7,7 +7,7 @@ ghost use Rattle.prucc.specs.SourceAnswer.{BodyFails, FormFails, MainOf, ReadsAs
 ghost use Rattle.std.specs.Option.{option_copied};
 
 use csyn::{
-    Base, CType, ExprKind, Exprs, Head, Items, Parameters, Pointers, Span, StmtKind, Tree,
+    Base, ExprKind, Exprs, Head, Items, Parameters, Pointers, Span, Specifiers, StmtKind, Tree,
     UnitKind, Units,
 };
 use std::alloc::{AllocError, AllocFailed, Global};
@@ -39,14 +39,14 @@ impl<T: Drop> From<AllocFailed<T>> for FormFault {
     }
 }
 
-fn is_plain_void(ctype: &CType) -> bool
-    ensures { result ≡ form.is_plain_void ctype.now }
+fn is_plain_void(specifiers: &Specifiers) -> bool
+    ensures { result ≡ form.is_plain_void specifiers.now }
 {
-    matches!(ctype.base, Base::Void)
-        && !ctype.is_static
-        && !ctype.is_inline
-        && !ctype.is_const
-        && !ctype.is_volatile
+    matches!(specifiers.base, Base::Void)
+        && !specifiers.is_static
+        && !specifiers.is_inline
+        && !specifiers.is_const
+        && !specifiers.is_volatile
 }
 
 /// Whether it is `void main(void)`.
@@ -54,7 +54,7 @@ fn is_plain_void(ctype: &CType) -> bool
 fn is_main(head: &Head) -> bool
     ensures { result ≡ form.is_main head.now }
 {
-    is_plain_void(&head.ctype)
+    is_plain_void(&head.specifiers)
         && matches!(head.pointers, Pointers::End)
         && head.name.as_bytes() == b"main".as_slice()
         && matches!(head.parameters, Parameters::Void)

@@ -16,6 +16,8 @@ mod tests;
 mod top;
 #[cfg(test)]
 mod tree_tests;
+#[cfg(test)]
+mod tree_text;
 
 use fileset::{HostFiles, HostSink};
 use status::Status;

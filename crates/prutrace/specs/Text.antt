@@ -44,3 +44,15 @@ events_text zero one = core_text 0 zero ++ core_text 1 one
 -- the events of a trace, without their cycles
 abbrev pub events_of : List Stamped → List Event
 events_of trace = map (λ s. s.event) trace
+
+-- an event with its cycle before it
+abbrev pub stamped_text : Stamped → List ℕ
+stamped_text s = decimal s.cycle ++ (codes " " ++ event_text s.event)
+
+-- a core's trace, an event a line, behind a line that names the core
+abbrev pub core_trace_text : ℕ → List Stamped → List ℕ
+core_trace_text core trace = line (codes "core " ++ decimal core) ++ flat_map (λ s. line (stamped_text s)) trace
+
+-- a trace file: core 0's trace, then core 1's
+abbrev pub trace_text : List Stamped → List Stamped → List ℕ
+trace_text zero one = core_trace_text 0 zero ++ core_trace_text 1 one

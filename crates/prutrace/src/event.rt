@@ -1,5 +1,5 @@
 ghost use Rattle.std.specs.Prelude.{Some};
-ghost use Rattle.prutrace.specs.Text.{place_text, event_text};
+ghost use Rattle.prutrace.specs.Text.{place_text, event_text, stamped_text};
 
 use prunum::{Width, bytes};
 use std::fmt;
@@ -83,5 +83,15 @@ impl fmt::Display for Event {
             Event::DelayOut(cycles) => write!(f, "O {cycles}"),
             Event::Halted => write!(f, "H"),
         }
+    }
+}
+
+impl fmt::Display for Stamped {
+    ghost output = { λ s. Some (stamped_text s) };
+
+    fn fmt<W: fmt::Write>(&self, f: &mut fmt::Formatter<W>) -> fmt::Result {
+        let cycle = self.cycle;
+        let event = self.event;
+        write!(f, "{cycle} {event}")
     }
 }

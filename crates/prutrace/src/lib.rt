@@ -2,10 +2,16 @@
 #![tactic(auto)]
 
 mod event;
+mod fault;
+mod line;
 mod print;
+mod read;
 
 pub use event::{Event, Place, Stamped};
-pub use print::print_events;
+pub use fault::EventsFault;
+pub use line::read_event;
+pub use print::{print_events, print_trace};
+pub use read::read_events;
 
 #[cfg(test)]
 mod tests;

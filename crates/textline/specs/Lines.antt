@@ -1,5 +1,5 @@
 -- A text as lines, and a line as fields.
-use Rattle.std.specs.Prelude.{◌≢◌, ℕ, ◌==◌, if◌then◌else◌, List, [], ◌∷◌, ◌++◌}
+use Rattle.std.specs.Prelude.{◌≡◌, ◌≢◌, ℕ, ◌==◌, ◌⊎◌, if◌then◌else◌, List, [], ◌∷◌, ◌++◌}
 use Rattle.std.specs.List.{AllByRecursion, slice_split, join_with_byte, onto_first, flat_map}
 
 -- no byte of the text is this one
@@ -27,3 +27,8 @@ fields_of line = slice_split (λ b. b == 32) line
 pub record Ahead : Type 0 where
   pub number : ℕ
   pub text : List ℕ
+
+-- A line without its end is taken from the front of a text: behind it stood its end and the rest, or it was all that was left.
+pub record TakesLine (text line rest : List ℕ) : Type 0 where
+  pub lacks : Lacks 10 line
+  pub cut : (text ≡ line ++ 10 ∷ rest) ⊎ ((text ≡ line) × (rest ≡ []))

@@ -1,8 +1,8 @@
 ghost use Rattle.std.specs.Prelude.{◌≡◌, ◌∷◌, ◌++◌, MatchOption};
 ghost use Rattle.textline.specs.Lines.{Lacks};
 
-/// What stands before the first such byte, and what stands behind it, where there is one.
-pub fn cut(text: &[u8], byte: u8) -> Option<(&[u8], &[u8])>
+/// What stands before the first such byte, and what stands behind it. `None` where there is none.
+pub fn split_once(text: &[u8], byte: u8) -> Option<(&[u8], &[u8])>
     ensures { MatchOption result (Lacks byte text.now)
         (λ parts. Lacks byte parts.0.now × (text.now ≡ parts.0.now ++ byte ∷ parts.1.now)) }
 {

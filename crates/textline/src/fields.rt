@@ -2,7 +2,7 @@ ghost use Rattle.std.specs.Prelude.{◌≡◌, ◌↔◌, List, ℕ, [], ◌∷�
 ghost use Rattle.textline.specs.Lines.{fields_of, line_of};
 ghost use Rattle.textline.specs.Numbers.{decimal_in, hex_in};
 
-use crate::cut::cut;
+use crate::cut::split_once;
 use crate::number::{Decimal, read_decimal, read_hex4, read_hex8};
 use std::marker::Model;
 
@@ -37,7 +37,7 @@ impl<'a> Fields<'a> {
         ensures none { IfNone result ((self.old ≡ []) × (self.new ≡ [])) }
     {
         let rest = self.rest?;
-        match cut(rest, b' ') {
+        match split_once(rest, b' ') {
             Some((word, behind)) => {
                 self.rest = Some(behind);
                 Some(word)

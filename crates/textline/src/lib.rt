@@ -8,6 +8,7 @@ mod laws;
 mod lines;
 mod number;
 
+pub use cut::split_once;
 pub use fields::Fields;
 pub use hex::{Hex4, Hex8};
 pub use laws::{fields_are_read_again, lines_are_read_again};

@@ -1,7 +1,7 @@
 ghost use Rattle.std.specs.Prelude.{◌≡◌, ◌↔◌, ◌+◌, ◌<◌, ◌^◌, [], ◌∷◌, ◌++◌, length, IsTrue, IfSome, IfNone};
-ghost use Rattle.textline.specs.Lines.{Lacks, lines_of};
+ghost use Rattle.textline.specs.Lines.{Lacks, lines_of, TakesLine};
 
-use crate::cut::cut;
+use crate::cut::split_once;
 use std::marker::Model;
 
 /// The lines of a text that are still to be read, with their numbers from 1.
@@ -48,6 +48,7 @@ impl<'a> Lines<'a> {
     /// Takes the next line, without its end. The last may lack its end. `None` where no byte is left.
     #[tactic(auto, using(crate::proofs::SplitLaws::lines_cut, crate::proofs::SplitLaws::lines_whole))]
     pub fn next_line(&mut self) -> Option<&'a [u8]>
+        ensures line { IfSome result (λ line. TakesLine self.old.text line.now self.new.text) }
         ensures some { IfSome result (λ line. lines_of self.old.text ≡ line.now ∷ lines_of self.new.text) }
         ensures number { IfSome result (λ _. self.new.number ≡ self.old.number + 1) }
         ensures shorter { IfSome result (λ _. length self.new.text < length self.old.text) }
@@ -57,7 +58,7 @@ impl<'a> Lines<'a> {
             return None;
         }
         self.number += 1;
-        match cut(self.text, b'\n') {
+        match split_once(self.text, b'\n') {
             Some((line, behind)) => {
                 self.text = behind;
                 Some(line)
@@ -76,7 +77,7 @@ impl<'a> Lines<'a> {
         ensures number { IfSome result (λ _. self.new.number ≡ self.old.number + 1) }
         ensures none { IfNone result (Lacks 10 self.old.text × (self.new ≡ self.old)) }
     {
-        let (line, behind) = cut(self.text, b'\n')?;
+        let (line, behind) = split_once(self.text, b'\n')?;
         self.number += 1;
         self.text = behind;
         Some(line)

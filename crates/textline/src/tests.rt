@@ -75,3 +75,9 @@ fn lines_and_fields_come_in_order(rt: HostRuntime) -> Result<(), Fail> {
     assert_eq!(rt; lines.number(), 4);
     Ok(())
 }
+
+#[test]
+fn words_are_cut_at_a_point(rt: HostRuntime) {
+    assert!(rt; split_once(b"P0.3", b'.') == Some((b"P0".as_slice(), b"3".as_slice())));
+    assert!(rt; split_once(b"P03", b'.').is_none());
+}

@@ -11,7 +11,7 @@ use Rattle.cgrammar.specs.Kind.{kind_of}
 use Rattle.cgrammar.specs.Terminal.{accepts}
 use Rattle.creader.specs.Rules.{any_accepts}
 use Rattle.cgrammar.specs.Grammar as class
-use Rattle.cgrammar.specs.Grammar.{template, home, under, is_wider, class_number, words_number, operator_level, assignment_class, alone, joined}
+use Rattle.cgrammar.specs.Grammar.{template, home, under, is_wider, class_number, words_number, operator_level, comparison_level, logical_level, alone, joined}
 use Rattle.cgrammar.specs.Text.{Written, leaf, node, Forest, none, more, IsProper, Match, Stands, IsText, spell, spells}
 use Rattle.creader.specs.Machine.{at, start, Reaches}
 use Rattle.creader.proofs.Complete.Reading.{reader, has_reader, follow, allows, is_statement}
@@ -23,7 +23,7 @@ use Rattle.creader.proofs.Complete.Whole.{complete}
 
 -- of a source only sources are made
 source-list : makers class.source ≡ make.Source ∷ []
-unfolding makers kept productions under home is_wider class_number words_number operator_level assignment_class alone joined
+unfolding makers kept productions under home is_wider class_number words_number operator_level comparison_level logical_level alone joined
 source-list = refl
 
 is-source : (p : Production) → under (home p) class.source ≡ true → p ≡ make.Source

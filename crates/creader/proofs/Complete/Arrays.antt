@@ -13,7 +13,7 @@ use Rattle.creader.specs.declared.part.Symbol.TheVariants as symbol
 use Rattle.cgrammar.specs.Kind.{kind_of}
 use Rattle.cgrammar.specs.Terminal.{accepts, keyword_number, punctuator_number}
 use Rattle.cgrammar.specs.Grammar as class
-use Rattle.cgrammar.specs.Grammar.{Piece, template, home, under, is_wider, class_number, words_number, operator_level, assignment_class, alone, joined}
+use Rattle.cgrammar.specs.Grammar.{Piece, template, home, under, is_wider, class_number, words_number, operator_level, comparison_level, logical_level, alone, joined}
 use Rattle.cgrammar.specs.Text.{Written, leaf, node, Forest, none, more, IsProper, Match, Stands, spell}
 use Rattle.creader.specs.Machine.{at, Reaches}
 use Rattle.creader.proofs.Complete.Reading.{reader, Reads}
@@ -30,7 +30,7 @@ use Rattle.creader.proofs.Complete.Pointers.{not_qualifier, stars-pointers, para
 
 -- only one production makes identifiers
 identifier-list : makers class.identifier ≡ make.Identifier ∷ []
-unfolding makers kept productions under home is_wider class_number words_number operator_level assignment_class alone joined
+unfolding makers kept productions under home is_wider class_number words_number operator_level comparison_level logical_level alone joined
 identifier-list = refl
 
 is-identifier : (p : Production) → under (home p) class.identifier ≡ true → p ≡ make.Identifier

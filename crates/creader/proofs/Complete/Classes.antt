@@ -19,7 +19,8 @@ plain_classes =
     ∷ class.more_declarators ∷ class.member ∷ class.more_members ∷ class.location ∷ class.initial ∷ class.init ∷ class.more_inits
     ∷ class.after_init_comma ∷ class.init_declarator ∷ class.more_init_declarators ∷ class.object ∷ class.statement ∷ class.optional_else
     ∷ class.for_first ∷ class.region_name ∷ class.items ∷ class.units ∷ class.unit ∷ class.register_type ∷ class.external_rest
-    ∷ class.function_end ∷ class.parameters ∷ class.parameter ∷ class.more_parameters ∷ class.source ∷ class.nothing ∷ class.some_qualifiers ∷ []
+    ∷ class.function_end ∷ class.parameters ∷ class.parameter ∷ class.more_parameters ∷ class.source ∷ class.nothing ∷ class.some_qualifiers
+    ∷ class.label ∷ class.switch_items ∷ class.more_switch_items ∷ []
 
 unfoldable words_classes : List Class
 words_classes =

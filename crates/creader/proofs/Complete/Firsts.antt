@@ -8,6 +8,8 @@ use Rattle.csyn.specs.declared.keyword.Keyword.TheVariants as keyword
 use Rattle.csyn.specs.declared.punctuator.Punctuator.{Punctuator}
 use Rattle.csyn.specs.declared.punctuator.Punctuator.TheVariants as punctuator
 use Rattle.csyn.specs.declared.operator.BinaryOperator.TheVariants as operator
+use Rattle.csyn.specs.declared.operator.ComparisonOperator.TheVariants as comparison
+use Rattle.csyn.specs.declared.operator.LogicalOperator.TheVariants as logical
 use Rattle.cgrammar.specs.declared.kind.Kind.{Kind}
 use Rattle.cgrammar.specs.declared.production.Production.{Production}
 use Rattle.cgrammar.specs.declared.production.Production.TheVariants as make
@@ -19,7 +21,7 @@ use Rattle.cgrammar.specs.Kind.{kind_of}
 use Rattle.cgrammar.specs.Terminal.{accepts, keyword_number, punctuator_number}
 use Rattle.creader.specs.Rules.{any_accepts}
 use Rattle.cgrammar.specs.Grammar as class
-use Rattle.cgrammar.specs.Grammar.{Class, Piece, token, part, template, home, under, is_wider, operator_level, operator_token, assignment_class, assignment_token, word_token, alone, before, joined}
+use Rattle.cgrammar.specs.Grammar.{Class, Piece, token, part, template, home, under, is_wider, operator_level, operator_token, comparison_level, comparison_token, logical_level, logical_token, assignment_token, word_token, alone, before, joined}
 use Rattle.cgrammar.specs.Text.{Written, leaf, node, Forest, none, more, IsProper, Match, Stands, spell, spells}
 use Rattle.creader.proofs.Complete.Classes.{under-ways}
 use Rattle.creader.proofs.Complete.Kinds.{every_kind, at-kind, kinds, each}
@@ -42,8 +44,11 @@ abbrev type_starts : List Terminal
 type_starts = terminal.Specifier ∷ word keyword.Void ∷ word keyword.Struct ∷ terminal.Standard ∷ integer_words
 
 abbrev statement_starts : List Terminal
-statement_starts = sign punctuator.LeftBrace ∷ word keyword.If ∷ word keyword.While ∷ word keyword.Do ∷ word keyword.For ∷ word keyword.Break
+statement_starts = sign punctuator.LeftBrace ∷ word keyword.If ∷ word keyword.While ∷ word keyword.Do ∷ word keyword.For ∷ word keyword.Switch ∷ word keyword.Break
     ∷ word keyword.Continue ∷ word keyword.Return ∷ word keyword.Region ∷ sign punctuator.Semicolon ∷ expression_starts
+
+abbrev label_starts : List Terminal
+label_starts = word keyword.Case ∷ word keyword.Default ∷ []
 
 -- the tokens with which it may begin
 unfoldable pub firsts : Class → List Terminal
@@ -81,6 +86,9 @@ firsts class.optional_else = word keyword.Else ∷ []
 firsts class.for_first = sign punctuator.Semicolon ∷ type_starts ++ expression_starts
 firsts class.region_name = terminal.Literal ∷ []
 firsts class.items = type_starts ++ statement_starts
+firsts class.label = label_starts
+firsts class.switch_items = label_starts
+firsts class.more_switch_items = label_starts ++ statement_starts
 firsts class.units = type_starts
 firsts class.unit = type_starts
 firsts class.register_type = word keyword.Unsigned ∷ terminal.Uint32 ∷ []
@@ -111,6 +119,8 @@ nullable class.after_init_comma = true
 nullable class.more_init_declarators = true
 nullable class.optional_else = true
 nullable class.items = true
+nullable class.switch_items = true
+nullable class.more_switch_items = true
 nullable class.units = true
 nullable class.parameters = true
 nullable class.more_parameters = true
@@ -171,9 +181,13 @@ closed p = every_kind (λ kind. not (may_begin (template p) never kind) || any_a
 -- as is computed
 closed-all : (p : Production) → closed p ≡ true
 unfolding closed every_kind kinds each may_begin all_nullable template home firsts nullable any_accepts accepts keyword_number punctuator_number
-    operator_level operator_token assignment_class assignment_token word_token alone before joined
+    operator_level operator_token comparison_level comparison_token logical_level logical_token assignment_token word_token alone before joined
 closed-all (make.Binary operator.Multiply) = refl
 closed-all (make.Binary _) = refl
+closed-all (make.Comparison comparison.Less) = refl
+closed-all (make.Comparison _) = refl
+closed-all (make.Logical logical.And) = refl
+closed-all (make.Logical _) = refl
 closed-all (make.AssignWith operator.Multiply) = refl
 closed-all (make.AssignWith _) = refl
 closed-all (make.FirstWord kind.Sign) = refl

@@ -15,7 +15,7 @@ use Rattle.cgrammar.specs.Kind.{kind_of}
 use Rattle.cgrammar.specs.Terminal.{accepts}
 use Rattle.creader.specs.Rules.{Rule, rules, choose, any_accepts}
 use Rattle.cgrammar.specs.Grammar as class
-use Rattle.cgrammar.specs.Grammar.{Class, under, home, operator_level}
+use Rattle.cgrammar.specs.Grammar.{Class, under, home, operator_level, comparison_level, logical_level}
 use Rattle.cgrammar.specs.Text.{Written, leaf, node, Forest, none, more, spell}
 use Rattle.creader.specs.Machine.{at, Reaches}
 use Rattle.creader.proofs.Complete.Firsts.{Begins, firsts, sign}
@@ -94,6 +94,8 @@ barred make.SizeofExpression = extenders 14
 barred make.Prefix = extenders 13
 barred make.Cast = extenders 13
 barred (make.Binary o) = extenders (operator_level o + 1)
+barred (make.Comparison o) = extenders (comparison_level o + 1)
+barred (make.Logical o) = extenders (logical_level o + 1)
 barred make.Conditional = extenders 2
 barred make.Assign = extenders 1
 barred (make.AssignWith _) = extenders 1

@@ -16,7 +16,7 @@ use Rattle.cgrammar.specs.Kind.{kind_of}
 use Rattle.cgrammar.specs.Terminal.{accepts, keyword_number, punctuator_number}
 use Rattle.creader.specs.Rules.{any_accepts}
 use Rattle.cgrammar.specs.Grammar as class
-use Rattle.cgrammar.specs.Grammar.{template, home, under, is_wider, class_number, words_number, operator_level, assignment_class, alone, joined}
+use Rattle.cgrammar.specs.Grammar.{template, home, under, is_wider, class_number, words_number, operator_level, comparison_level, logical_level, alone, joined}
 use Rattle.cgrammar.specs.Text.{Written, leaf, node, Forest, none, more, IsProper, Match, Stands, spell, spells}
 use Rattle.creader.specs.Machine.{at, Reaches}
 use Rattle.creader.proofs.Complete.Reading.{reader, follow, allows, is_statement, has_reader, Reads}
@@ -41,15 +41,15 @@ not_qualifier kind = not (is_qualifier kind)
 
 -- the productions that make pointers
 stars-list : makers class.stars ≡ make.NoPointers ∷ make.Star ∷ []
-unfolding makers kept productions under home is_wider class_number words_number operator_level assignment_class alone joined
+unfolding makers kept productions under home is_wider class_number words_number operator_level comparison_level logical_level alone joined
 stars-list = refl
 
 qualified-list : makers class.qualified ≡ make.QualifiedPointer ∷ make.NextPointer ∷ []
-unfolding makers kept productions under home is_wider class_number words_number operator_level assignment_class alone joined
+unfolding makers kept productions under home is_wider class_number words_number operator_level comparison_level logical_level alone joined
 qualified-list = refl
 
 pointers-list : makers class.pointers ≡ make.NoPointers ∷ make.Star ∷ make.QualifiedPointer ∷ make.NextPointer ∷ []
-unfolding makers kept productions under home is_wider class_number words_number operator_level assignment_class alone joined
+unfolding makers kept productions under home is_wider class_number words_number operator_level comparison_level logical_level alone joined
 pointers-list = refl
 
 -- the parts by which stars are read one by one

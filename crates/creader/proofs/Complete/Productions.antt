@@ -3,6 +3,10 @@ use Rattle.std.specs.Prelude.{◌≡◌, ℕ, zero, suc, ◌+◌, ◌*◌, ◌�
 use Rattle.std.proofs.Common.{refl, inl, inr}
 use Rattle.csyn.specs.declared.operator.BinaryOperator.{BinaryOperator}
 use Rattle.csyn.specs.declared.operator.BinaryOperator.TheVariants as operator
+use Rattle.csyn.specs.declared.operator.ComparisonOperator.{ComparisonOperator}
+use Rattle.csyn.specs.declared.operator.ComparisonOperator.TheVariants as comparison
+use Rattle.csyn.specs.declared.operator.LogicalOperator.{LogicalOperator}
+use Rattle.csyn.specs.declared.operator.LogicalOperator.TheVariants as logical
 use Rattle.cgrammar.specs.declared.production.Word.{Word}
 use Rattle.cgrammar.specs.declared.production.Word.TheVariants as kind
 use Rattle.cgrammar.specs.declared.production.Words.TheVariants as every
@@ -28,16 +32,16 @@ productions =
     ∷ make.StructUnit ∷ make.RegisterUnit ∷ make.UnsignedInt ∷ make.RegisterUint32 ∷ make.External ∷ make.ObjectRest ∷ make.FunctionRest
     ∷ make.PrototypeEnd ∷ make.FunctionBody ∷ make.NoParameters ∷ make.VoidParameters ∷ make.SomeParameters ∷ make.Parameter
     ∷ make.ArrayParameter ∷ make.EndParameters ∷ make.NextParameter ∷ make.EndUnits ∷ make.NextUnit ∷ make.Source
-    ∷ make.Binary operator.Multiply ∷ make.Binary operator.Divide ∷ make.Binary operator.Remainder ∷ make.Binary operator.Add
-    ∷ make.Binary operator.Subtract ∷ make.Binary operator.ShiftLeft ∷ make.Binary operator.ShiftRight ∷ make.Binary operator.Less
-    ∷ make.Binary operator.Greater ∷ make.Binary operator.LessEqual ∷ make.Binary operator.GreaterEqual ∷ make.Binary operator.Equal
-    ∷ make.Binary operator.NotEqual ∷ make.Binary operator.BitAnd ∷ make.Binary operator.BitXor ∷ make.Binary operator.BitOr
-    ∷ make.Binary operator.And ∷ make.Binary operator.Or ∷ make.AssignWith operator.Multiply ∷ make.AssignWith operator.Divide
-    ∷ make.AssignWith operator.Remainder ∷ make.AssignWith operator.Add ∷ make.AssignWith operator.Subtract
-    ∷ make.AssignWith operator.ShiftLeft ∷ make.AssignWith operator.ShiftRight ∷ make.AssignWith operator.Less
-    ∷ make.AssignWith operator.Greater ∷ make.AssignWith operator.LessEqual ∷ make.AssignWith operator.GreaterEqual
-    ∷ make.AssignWith operator.Equal ∷ make.AssignWith operator.NotEqual ∷ make.AssignWith operator.BitAnd ∷ make.AssignWith operator.BitXor
-    ∷ make.AssignWith operator.BitOr ∷ make.AssignWith operator.And ∷ make.AssignWith operator.Or ∷ make.FirstWord kind.Sign
+    ∷ make.Switch ∷ make.NoSwitchItems ∷ make.FirstLabel ∷ make.EndSwitchItems ∷ make.NextLabel ∷ make.NextSwitchStatement
+    ∷ make.CaseLabel ∷ make.DefaultLabel ∷ make.Binary operator.Multiply ∷ make.Binary operator.Divide ∷ make.Binary operator.Remainder
+    ∷ make.Binary operator.Add ∷ make.Binary operator.Subtract ∷ make.Binary operator.ShiftLeft ∷ make.Binary operator.ShiftRight
+    ∷ make.Binary operator.BitAnd ∷ make.Binary operator.BitXor ∷ make.Binary operator.BitOr ∷ make.Comparison comparison.Less
+    ∷ make.Comparison comparison.Greater ∷ make.Comparison comparison.LessEqual ∷ make.Comparison comparison.GreaterEqual
+    ∷ make.Comparison comparison.Equal ∷ make.Comparison comparison.NotEqual ∷ make.Logical logical.And ∷ make.Logical logical.Or
+    ∷ make.AssignWith operator.Multiply ∷ make.AssignWith operator.Divide ∷ make.AssignWith operator.Remainder
+    ∷ make.AssignWith operator.Add ∷ make.AssignWith operator.Subtract ∷ make.AssignWith operator.ShiftLeft
+    ∷ make.AssignWith operator.ShiftRight ∷ make.AssignWith operator.BitAnd ∷ make.AssignWith operator.BitXor
+    ∷ make.AssignWith operator.BitOr ∷ make.FirstWord kind.Sign
     ∷ make.FirstWord kind.Char ∷ make.FirstWord kind.Length ∷ make.FirstWord kind.Int ∷ make.NextWord every.Sign kind.Sign
     ∷ make.NextWord every.Sign kind.Char ∷ make.NextWord every.Sign kind.Length ∷ make.NextWord every.Sign kind.Int
     ∷ make.NextWord every.Char kind.Sign ∷ make.NextWord every.Char kind.Char ∷ make.NextWord every.Char kind.Length
@@ -61,17 +65,21 @@ operator_number operator.Add = 3
 operator_number operator.Subtract = 4
 operator_number operator.ShiftLeft = 5
 operator_number operator.ShiftRight = 6
-operator_number operator.Less = 7
-operator_number operator.Greater = 8
-operator_number operator.LessEqual = 9
-operator_number operator.GreaterEqual = 10
-operator_number operator.Equal = 11
-operator_number operator.NotEqual = 12
-operator_number operator.BitAnd = 13
-operator_number operator.BitXor = 14
-operator_number operator.BitOr = 15
-operator_number operator.And = 16
-operator_number operator.Or = 17
+operator_number operator.BitAnd = 7
+operator_number operator.BitXor = 8
+operator_number operator.BitOr = 9
+
+unfoldable pub comparison_number : ComparisonOperator → ℕ
+comparison_number comparison.Less = 0
+comparison_number comparison.Greater = 1
+comparison_number comparison.LessEqual = 2
+comparison_number comparison.GreaterEqual = 3
+comparison_number comparison.Equal = 4
+comparison_number comparison.NotEqual = 5
+
+unfoldable pub logical_number : LogicalOperator → ℕ
+logical_number logical.And = 0
+logical_number logical.Or = 1
 
 unfoldable pub word_number : Word → ℕ
 word_number kind.Sign = 0
@@ -180,16 +188,30 @@ production_number make.NextParameter = 95
 production_number make.EndUnits = 96
 production_number make.NextUnit = 97
 production_number make.Source = 98
-production_number (make.Binary o) = 99 + operator_number o
-production_number (make.AssignWith o) = 117 + operator_number o
+production_number make.Switch = 99
+production_number make.NoSwitchItems = 100
+production_number make.FirstLabel = 101
+production_number make.EndSwitchItems = 102
+production_number make.NextLabel = 103
+production_number make.NextSwitchStatement = 104
+production_number make.CaseLabel = 105
+production_number make.DefaultLabel = 106
+production_number (make.Binary o) = 107 + operator_number o
+production_number (make.Comparison o) = 117 + comparison_number o
+production_number (make.Logical o) = 123 + logical_number o
+production_number (make.AssignWith o) = 125 + operator_number o
 production_number (make.FirstWord w) = 135 + word_number w
 production_number (make.NextWord all w) = 139 + (4 * words_number all + word_number w)
 
 -- each stands at its number
 pub production-entry : (p : Production) → entry (production_number p) productions ≡ Some p
-unfolding entry productions production_number operator_number word_number words_number
+unfolding entry productions production_number operator_number comparison_number logical_number word_number words_number
 production-entry (make.Binary operator.Multiply) = refl
 production-entry (make.Binary _) = refl
+production-entry (make.Comparison comparison.Less) = refl
+production-entry (make.Comparison _) = refl
+production-entry (make.Logical logical.And) = refl
+production-entry (make.Logical _) = refl
 production-entry (make.AssignWith operator.Multiply) = refl
 production-entry (make.AssignWith _) = refl
 production-entry (make.FirstWord kind.Sign) = refl

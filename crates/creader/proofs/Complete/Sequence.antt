@@ -9,7 +9,7 @@ use Rattle.cgrammar.specs.declared.production.Production.TheVariants as make
 use Rattle.creader.specs.declared.part.Symbol.{Symbol}
 use Rattle.creader.specs.declared.part.Symbol.TheVariants as symbol
 use Rattle.cgrammar.specs.Grammar as class
-use Rattle.cgrammar.specs.Grammar.{Class, Piece, token, part, template, home, under, is_wider, class_number, words_number, operator_level, assignment_class, alone, joined}
+use Rattle.cgrammar.specs.Grammar.{Class, Piece, token, part, template, home, under, is_wider, class_number, words_number, operator_level, comparison_level, logical_level, alone, joined}
 use Rattle.cgrammar.specs.Text.{Written, leaf, node, Forest, none, more, IsProper, Match, spell, spells, dangles, last_dangles, begins_with_else}
 use Rattle.creader.specs.Machine.{at, Reaches, here}
 use Rattle.creader.proofs.Complete.Reading.{reader, follow, allows, is_statement, has_reader, Reads}
@@ -80,7 +80,7 @@ data IsElse : Production → Type 0 where
 
 -- the two productions behind the first branch
 else-list : makers class.optional_else ≡ make.NoElse ∷ make.Else ∷ []
-unfolding makers kept productions under home is_wider class_number words_number operator_level assignment_class alone joined
+unfolding makers kept productions under home is_wider class_number words_number operator_level comparison_level logical_level alone joined
 else-list = refl
 
 -- as a choice

@@ -2,8 +2,6 @@
 use Rattle.std.specs.Prelude.{◌≡◌, Bool, true, false, not, ◌&&◌, ◌⊎◌, List, [], ◌∷◌, if◌then◌else◌}
 use Rattle.std.proofs.Common.{refl, sym, inl, inr}
 use Rattle.std.proofs.lemmas.Bool.{and_parts, or_from}
-use Rattle.csyn.specs.declared.operator.BinaryOperator.{BinaryOperator}
-use Rattle.csyn.specs.declared.operator.BinaryOperator.TheVariants as operator
 use Rattle.cgrammar.specs.declared.production.Word.{Word}
 use Rattle.cgrammar.specs.declared.production.Word.TheVariants as word
 use Rattle.cgrammar.specs.declared.production.Words.{Words}
@@ -11,7 +9,7 @@ use Rattle.cgrammar.specs.declared.production.Words.TheVariants as every
 use Rattle.cgrammar.specs.declared.production.Production.{Production}
 use Rattle.cgrammar.specs.declared.production.Production.TheVariants as make
 use Rattle.cgrammar.specs.Grammar as class
-use Rattle.cgrammar.specs.Grammar.{Class, Piece, template, home, under, is_wider, class_number, assignment_class, joined}
+use Rattle.cgrammar.specs.Grammar.{Class, Piece, template, home, under, is_wider, class_number, joined}
 use Rattle.cgrammar.specs.Text.{Written, leaf, node, Forest, none, more, IsProper, Match}
 use Rattle.creader.proofs.Complete.Reading.{reader, follow, is_statement, has_reader, Reads, Complete}
 use Rattle.creader.proofs.Complete.Classes.{under-ways}
@@ -152,19 +150,6 @@ pointers-known p f e s u m deep = known-other p f e (λ c v h. go c h (under-way
     go c h (inl same) = absurd (pointers-bare c (rw same at s) h)
     go c h (inr w) = let same = pointers-wider (home p) c s w in rw same (pointers-read p f u m deep)
 
--- an assignment is an expression, or of no class
-assignment-ways : (o : BinaryOperator) → is_expression (make.AssignWith o) ≡ false → unread (home (make.AssignWith o)) ≡ true
-unfolding is_expression is_level unread home assignment_class
-assignment-ways operator.Less e = refl
-assignment-ways operator.Greater e = refl
-assignment-ways operator.LessEqual e = refl
-assignment-ways operator.GreaterEqual e = refl
-assignment-ways operator.Equal e = refl
-assignment-ways operator.NotEqual e = refl
-assignment-ways operator.And e = refl
-assignment-ways operator.Or e = refl
-assignment-ways _ e = absurd (no (sym e))
-
 -- words behind others are words, or of no class
 next-word-unread : (all : Words) (w : Word) → unread (home (make.NextWord all w)) ≡ true
 unfolding unread home joined
@@ -188,7 +173,6 @@ special-known make.Source f e e' m deep = narrow-known make.Source f e refl (dir
 special-known make.IntegerBase f e e' m deep = narrow-known make.IntegerBase f e refl (integer-base-reads f m)
 special-known (make.FirstWord w) f e e' m deep = unread-known (make.FirstWord w) f e refl
 special-known (make.NextWord all w) f e e' m deep = unread-known (make.NextWord all w) f e (next-word-unread all w)
-special-known (make.AssignWith o) f e e' m deep = unread-known (make.AssignWith o) f e (assignment-ways o e)
 special-known make.NoPointers f e e' m deep = pointers-known make.NoPointers f e refl refl m deep
 special-known make.Star f e e' m deep = pointers-known make.Star f e refl refl m deep
 special-known make.QualifiedPointer f e e' m deep = pointers-known make.QualifiedPointer f e refl refl m deep

@@ -2,7 +2,6 @@
 use Rattle.std.specs.Prelude.{◌≡◌, Bool, true, false, not, ◌⊎◌, List, [], ◌∷◌, ◌++◌}
 use Rattle.std.proofs.Common.{refl, subst, ap, inl, inr, append_assoc}
 use Rattle.csyn.specs.declared.token.Token.{Token}
-use Rattle.csyn.specs.declared.operator.BinaryOperator.TheVariants as operator
 use Rattle.cgrammar.specs.declared.production.Word.{Word}
 use Rattle.cgrammar.specs.declared.production.Word.TheVariants as kind
 use Rattle.cgrammar.specs.declared.production.Words.{Words}
@@ -16,7 +15,7 @@ use Rattle.creader.specs.declared.part.Symbol.TheVariants as symbol
 use Rattle.cgrammar.specs.Terminal.{accepts}
 use Rattle.creader.specs.Rules.{any_accepts}
 use Rattle.cgrammar.specs.Grammar as class
-use Rattle.cgrammar.specs.Grammar.{Class, under, is_wider, template, home, word_token, alone, before, joined, assignment_class}
+use Rattle.cgrammar.specs.Grammar.{Class, under, is_wider, template, home, word_token, alone, before, joined}
 use Rattle.cgrammar.specs.Text.{Written, leaf, node, Forest, none, more, IsProper, Match, Stands, spell, spells}
 use Rattle.creader.specs.Machine.{at, Reaches}
 use Rattle.creader.proofs.Complete.Reading.{reader, follow, allows, is_statement, Reads}
@@ -100,11 +99,9 @@ adds_word _ = false
 
 -- no other production makes words
 adds-word : (p : Production) → is_words (home p) ≡ true → adds_word p ≡ true
-unfolding is_words adds_word home assignment_class
+unfolding is_words adds_word home
 adds-word (make.FirstWord _) h = refl
 adds-word (make.NextWord _ _) h = refl
-adds-word (make.AssignWith operator.Multiply) h = absurd (no h)
-adds-word (make.AssignWith _) h = absurd (no h)
 adds-word _ h = absurd (no h)
 
 words-added : (p : Production) (ws : Words) → home p ≡ class.words ws → adds_word p ≡ true
@@ -166,9 +163,7 @@ is_integer class.integer = true
 is_integer _ = false
 
 no-integer : (p : Production) → is_integer (home p) ≡ true → ⊥
-unfolding is_integer home assignment_class joined
-no-integer (make.AssignWith operator.Multiply) h = no h
-no-integer (make.AssignWith _) h = no h
+unfolding is_integer home joined
 no-integer (make.NextWord every.Sign kind.Sign) h = no h
 no-integer (make.NextWord every.Char kind.Sign) h = no h
 no-integer (make.NextWord every.Length kind.Sign) h = no h

@@ -3,7 +3,7 @@ use Rattle.std.proofs.Common.{◌≡◌, false, List, [], map, codes, refl}
 use Rattle.csyn.specs.declared.token.Token.{Token}
 use Rattle.csyn.specs.declared.token.TokenKind.{TokenKind}
 use Rattle.csyn.specs.declared.token.TokenKind.TheVariants as token
-use Rattle.csyn.specs.declared.ctype.StandardInteger.TheVariants as standard
+use Rattle.csyn.specs.declared.specifiers.StandardInteger.TheVariants as standard
 use Rattle.cgrammar.specs.declared.kind.Kind.{Kind}
 use Rattle.cgrammar.specs.declared.kind.Kind.TheVariants as kind
 use Rattle.cgrammar.specs.Kind.{kind_of, name_kind}

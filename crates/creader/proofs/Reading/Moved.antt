@@ -1,6 +1,6 @@
 -- What a step that takes no token leaves.
 use Rattle.std.specs.Prelude.{◌≡◌, ◌<◌, Bool, true, false, List, [], ◌∷◌, ◌++◌, Option, Some, None, refl, cond}
-use Rattle.std.proofs.Common.{arith, sym, ap, subst}
+use Rattle.std.proofs.Common.{sym, ap, subst}
 use Rattle.cgrammar.specs.declared.kind.Kind.{Kind}
 use Rattle.creader.specs.declared.part.Part.{Part}
 use Rattle.creader.specs.declared.part.Move.{Move}
@@ -12,7 +12,7 @@ use Rattle.creader.specs.Rules.{Rule, rules, choose}
 use Rattle.creader.specs.declared.reader.Progress.{Progress}
 use Rattle.creader.specs.declared.reader.Progress.TheVariants as progress
 use Rattle.creader.specs.Reader.{Held, step, step_by, followed, moved, pushed, reduced, taken}
-use Rattle.creader.proofs.Reading.Weight.{weigh, is_sure_symbol, symbol_weight, lighter}
+use Rattle.creader.proofs.Reading.Weight.{weigh, lighter, made_paid}
 
 -- lighter symbols, and the same place
 pub record Lighter (symbols : List Symbol) (before after : Held) : Type 0 where
@@ -41,11 +41,10 @@ take_by false symbols h b e = let other : progress.Stuck ≡ progress.Moved = ap
 
 -- a step that takes no token leaves less weight, whatever the first symbol is
 lighter_at : (symbols : List Symbol) (kind : Kind) (h b : Held) → step_by symbols kind h ≡ (progress.Moved, b) → Lighter symbols h b
-unfolding weigh is_sure_symbol symbol_weight
 lighter_at [] kind h b e = let other : progress.Stuck ≡ progress.Moved = ap (λ (x : Progress × Held). x.0) e in absurd (cc)
 lighter_at (symbol.Reduce production ∷ symbols) kind h b e =
     let same : reduced production (record h { symbols = symbols }) ≡ b = ap (λ (x : Progress × Held). x.1) e in
-    subst (Lighter (symbol.Reduce production ∷ symbols) h) same record { weighs = omega arith; place = refl }
+    subst (Lighter (symbol.Reduce production ∷ symbols) h) same record { weighs = made_paid production symbols; place = refl }
 lighter_at (symbol.Take terminal ∷ symbols) kind h b e = take_by (accepts terminal kind) symbols h b e
 lighter_at (symbol.Read part ∷ symbols) kind h b e = read_by (choose (rules part) kind) part kind symbols h b refl e
 

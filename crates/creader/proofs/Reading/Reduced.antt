@@ -41,7 +41,7 @@ unfolding width
 one-width values production parts =
     width-turned values (more (node production parts) none) ∙ ap (λ xs. width (turned values none) + length xs) (append-nil (spells parts))
 
-one-entry : (values : List Written) (production : Production) (parts : Forest)
+pub one-entry : (values : List Written) (production : Production) (parts : Forest)
     → entries_of 0 (turned values (more (node production parts) none))
     ≡ entries_of 0 (turned values parts)
     ++ record { production = production; first = width (turned values none); end = width (turned values none) + width parts } ∷ []

@@ -105,7 +105,7 @@ firsts-one : (token : Token) (values : List Written)
 unfolding firsts_of
 firsts-one token values = firsts-turned values (more (leaf token) none)
 
-entries-one : (token : Token) (values : List Written) → entries_of 0 (turned values (more (leaf token) none)) ≡ entries_of 0 (turned values none)
+pub entries-one : (token : Token) (values : List Written) → entries_of 0 (turned values (more (leaf token) none)) ≡ entries_of 0 (turned values none)
 unfolding entries entries_of
 entries-one token values = entries-turned values (more (leaf token) none) ∙ append-nil _
 

@@ -1,8 +1,10 @@
--- Steps that take no token come to an end: the symbols up to the first that surely takes one weigh less each time.
-use Rattle.std.specs.Prelude.{◌≡◌, ℕ, ◌+◌, ◌<◌, Bool, true, false, not, ◌||◌, ◌&&◌, nat_lt, if◌then◌else◌, List, [], ◌∷◌, ◌++◌, Some, refl, cond}
-use Rattle.std.proofs.Common.{arith, sym, ap, subst, ltb-true, zero-add}
+-- What reading costs: each step is paid out of what the symbols weigh, and each token that is taken brings more.
+use Rattle.std.specs.Prelude.{◌≡◌, ℕ, ◌+◌, ◌<◌, ◌≤◌, max, Bool, true, false, not, ◌||◌, ◌&&◌, nat_le, if◌then◌else◌, List, [], ◌∷◌, ◌++◌, Some, refl, cond}
+use Rattle.std.proofs.Common.{arith, ap, subst, leb-true}
 use Rattle.std.specs.Cmp.{first_so, second_so}
 use Rattle.cgrammar.specs.declared.kind.Kind.{Kind}
+use Rattle.cgrammar.specs.declared.production.Production.{Production}
+use Rattle.cgrammar.specs.declared.terminal.Terminal.{Terminal}
 use Rattle.creader.specs.declared.part.Part.{Part}
 use Rattle.creader.specs.declared.part.Part.TheVariants as part
 use Rattle.creader.specs.declared.part.Move.{Move}
@@ -11,224 +13,168 @@ use Rattle.creader.specs.declared.part.Symbol.{Symbol}
 use Rattle.creader.specs.declared.part.Symbol.TheVariants as symbol
 use Rattle.cgrammar.specs.declared.production.Level.TheVariants as level
 use Rattle.cgrammar.specs.declared.production.Words.TheVariants as words
+use Rattle.creader.specs.Machine.{each_token}
 use Rattle.creader.specs.Rules.{Rule, rules, chain_rules, chain_tail_rules, words_rules, choose}
 use Rattle.creader.proofs.Fault.Completion.{every_chosen}
 use Rattle.creader.proofs.Fault.Kinds.{every}
 
--- how many steps a part may take before a token is taken, at most
-unfoldable pub weight : Part → ℕ
-weight part.Expression = 3
-weight part.CommaTail = 1
-weight part.Assignment = 2
-weight part.AssignmentTail = 12
-weight part.AssignmentParenthesis = 4
-weight part.Conditional = 13
-weight part.ConditionalTail = 1
-weight (part.Chain level.Or) = 12
-weight (part.ChainTail level.Or) = 1
-weight (part.Chain level.And) = 11
-weight (part.ChainTail level.And) = 1
-weight (part.Chain level.BitOr) = 10
-weight (part.ChainTail level.BitOr) = 1
-weight (part.Chain level.BitXor) = 9
-weight (part.ChainTail level.BitXor) = 1
-weight (part.Chain level.BitAnd) = 8
-weight (part.ChainTail level.BitAnd) = 1
-weight (part.Chain level.Equality) = 7
-weight (part.ChainTail level.Equality) = 1
-weight (part.Chain level.Relation) = 6
-weight (part.ChainTail level.Relation) = 1
-weight (part.Chain level.Shift) = 5
-weight (part.ChainTail level.Shift) = 1
-weight (part.Chain level.Sum) = 4
-weight (part.ChainTail level.Sum) = 1
-weight (part.Chain level.Product) = 3
-weight (part.ChainTail level.Product) = 1
-weight part.Operand = 2
-weight part.OperandParenthesis = 4
-weight part.Unary = 1
-weight part.SizeofOperand = 2
-weight part.SizeofParenthesis = 4
-weight part.AfterName = 3
-weight part.NameTail = 1
-weight part.PostfixTail = 1
-weight part.Arguments = 3
-weight part.MoreArguments = 2
-weight part.OptionalExpression = 4
-weight part.TypeName = 3
-weight part.Type = 2
-weight part.Base = 1
-weight (part.Words words.Sign) = 1
-weight (part.Words words.Char) = 1
-weight (part.Words words.Length) = 1
-weight (part.Words words.Int) = 1
-weight (part.Words words.SignChar) = 1
-weight (part.Words words.SignLength) = 1
-weight (part.Words words.SignInt) = 1
-weight (part.Words words.LengthInt) = 1
-weight (part.Words words.SignLengthInt) = 1
-weight part.Qualifiers = 2
-weight part.Pointers = 3
-weight part.StarsTail = 1
-weight part.AfterStar = 3
-weight part.PointersTail = 1
-weight part.AfterNextStar = 3
-weight part.Lengths = 2
-weight part.Declarator = 5
-weight part.MoreDeclarators = 2
-weight part.StructMember = 3
-weight part.MoreMembers = 4
-weight part.Location = 2
-weight part.Initial = 2
-weight part.Init = 3
-weight part.MoreInits = 2
-weight part.AfterInitComma = 4
-weight part.InitDeclarator = 6
-weight part.MoreInitDeclarators = 2
-weight part.Object = 3
-weight part.Statement = 6
-weight part.OptionalElse = 2
-weight part.ForFirst = 6
-weight part.Items = 7
-weight part.Units = 4
-weight part.Unit = 3
-weight part.AfterVolatile = 3
-weight part.RegisterType = 1
-weight part.AfterTag = 9
-weight part.ExternalRest = 10
-weight part.FunctionEnd = 1
-weight part.Parameters = 4
-weight part.AfterVoid = 7
-weight part.Parameter = 3
-weight part.ParameterTail = 1
-weight part.ParameterAfterStar = 3
-weight part.ParameterEnd = 3
-weight part.ParameterLength = 4
-weight part.MoreParameters = 2
+pub data Cost : Type 0 where
+  -- It takes a token, whatever stands there, after at most so many steps.
+  sure : ℕ → Cost
+  -- It may end without a token, after at most so many steps, the first number, or begin what takes one, after so many more.
+  optional : ℕ → ℕ → Cost
 
--- it takes a token, whatever stands there
-unfoldable pub is_sure : Part → Bool
-is_sure part.Expression = true
-is_sure part.CommaTail = false
-is_sure part.Assignment = true
-is_sure part.AssignmentTail = false
-is_sure part.AssignmentParenthesis = true
-is_sure part.Conditional = true
-is_sure part.ConditionalTail = false
-is_sure (part.Chain level.Or) = true
-is_sure (part.ChainTail level.Or) = false
-is_sure (part.Chain level.And) = true
-is_sure (part.ChainTail level.And) = false
-is_sure (part.Chain level.BitOr) = true
-is_sure (part.ChainTail level.BitOr) = false
-is_sure (part.Chain level.BitXor) = true
-is_sure (part.ChainTail level.BitXor) = false
-is_sure (part.Chain level.BitAnd) = true
-is_sure (part.ChainTail level.BitAnd) = false
-is_sure (part.Chain level.Equality) = true
-is_sure (part.ChainTail level.Equality) = false
-is_sure (part.Chain level.Relation) = true
-is_sure (part.ChainTail level.Relation) = false
-is_sure (part.Chain level.Shift) = true
-is_sure (part.ChainTail level.Shift) = false
-is_sure (part.Chain level.Sum) = true
-is_sure (part.ChainTail level.Sum) = false
-is_sure (part.Chain level.Product) = true
-is_sure (part.ChainTail level.Product) = false
-is_sure part.Operand = true
-is_sure part.OperandParenthesis = true
-is_sure part.Unary = true
-is_sure part.SizeofOperand = true
-is_sure part.SizeofParenthesis = true
-is_sure part.AfterName = false
-is_sure part.NameTail = false
-is_sure part.PostfixTail = false
-is_sure part.Arguments = false
-is_sure part.MoreArguments = false
-is_sure part.OptionalExpression = false
-is_sure part.TypeName = true
-is_sure part.Type = true
-is_sure part.Base = true
-is_sure (part.Words words.Sign) = false
-is_sure (part.Words words.Char) = false
-is_sure (part.Words words.Length) = false
-is_sure (part.Words words.Int) = false
-is_sure (part.Words words.SignChar) = false
-is_sure (part.Words words.SignLength) = false
-is_sure (part.Words words.SignInt) = false
-is_sure (part.Words words.LengthInt) = false
-is_sure (part.Words words.SignLengthInt) = false
-is_sure part.Qualifiers = false
-is_sure part.Pointers = false
-is_sure part.StarsTail = false
-is_sure part.AfterStar = false
-is_sure part.PointersTail = false
-is_sure part.AfterNextStar = false
-is_sure part.Lengths = false
-is_sure part.Declarator = true
-is_sure part.MoreDeclarators = false
-is_sure part.StructMember = true
-is_sure part.MoreMembers = false
-is_sure part.Location = false
-is_sure part.Initial = false
-is_sure part.Init = true
-is_sure part.MoreInits = false
-is_sure part.AfterInitComma = false
-is_sure part.InitDeclarator = true
-is_sure part.MoreInitDeclarators = false
-is_sure part.Object = true
-is_sure part.Statement = true
-is_sure part.OptionalElse = false
-is_sure part.ForFirst = true
-is_sure part.Items = false
-is_sure part.Units = false
-is_sure part.Unit = true
-is_sure part.AfterVolatile = true
-is_sure part.RegisterType = true
-is_sure part.AfterTag = true
-is_sure part.ExternalRest = true
-is_sure part.FunctionEnd = true
-is_sure part.Parameters = false
-is_sure part.AfterVoid = false
-is_sure part.Parameter = true
-is_sure part.ParameterTail = true
-is_sure part.ParameterAfterStar = true
-is_sure part.ParameterEnd = false
-is_sure part.ParameterLength = true
-is_sure part.MoreParameters = false
+unfoldable pub cost : Part → Cost
+cost part.Expression = sure 15
+cost part.CommaTail = optional 1 0
+cost part.Assignment = sure 13
+cost part.AssignmentTail = optional 12 0
+cost part.AssignmentParenthesis = sure 30
+cost part.Conditional = sure 23
+cost part.ConditionalTail = optional 1 0
+cost (part.Chain level.Or) = sure 21
+cost (part.ChainTail level.Or) = optional 1 0
+cost (part.Chain level.And) = sure 19
+cost (part.ChainTail level.And) = optional 1 0
+cost (part.Chain level.BitOr) = sure 17
+cost (part.ChainTail level.BitOr) = optional 1 0
+cost (part.Chain level.BitXor) = sure 15
+cost (part.ChainTail level.BitXor) = optional 1 0
+cost (part.Chain level.BitAnd) = sure 13
+cost (part.ChainTail level.BitAnd) = optional 1 0
+cost (part.Chain level.Equality) = sure 11
+cost (part.ChainTail level.Equality) = optional 1 0
+cost (part.Chain level.Relation) = sure 9
+cost (part.ChainTail level.Relation) = optional 1 0
+cost (part.Chain level.Shift) = sure 7
+cost (part.ChainTail level.Shift) = optional 1 0
+cost (part.Chain level.Sum) = sure 5
+cost (part.ChainTail level.Sum) = optional 1 0
+cost (part.Chain level.Product) = sure 3
+cost (part.ChainTail level.Product) = optional 1 0
+cost part.Operand = sure 1
+cost part.OperandParenthesis = sure 18
+cost part.Unary = sure 0
+cost part.SizeofOperand = sure 2
+cost part.SizeofParenthesis = sure 19
+cost part.AfterName = optional 3 0
+cost part.NameTail = optional 1 0
+cost part.PostfixTail = optional 1 0
+cost part.Arguments = optional 2 15
+cost part.MoreArguments = optional 2 0
+cost part.OptionalExpression = optional 2 15
+cost part.TypeName = sure 9
+cost part.Type = sure 4
+cost part.Base = sure 0
+cost (part.Words words.Sign) = optional 1 0
+cost (part.Words words.Char) = optional 1 0
+cost (part.Words words.Length) = optional 1 0
+cost (part.Words words.Int) = optional 1 0
+cost (part.Words words.SignChar) = optional 1 0
+cost (part.Words words.SignLength) = optional 1 0
+cost (part.Words words.SignInt) = optional 1 0
+cost (part.Words words.LengthInt) = optional 1 0
+cost (part.Words words.SignLengthInt) = optional 1 0
+cost part.Qualifiers = optional 2 0
+cost part.Pointers = optional 3 0
+cost part.StarsTail = optional 1 0
+cost part.AfterStar = optional 3 0
+cost part.PointersTail = optional 1 0
+cost part.AfterNextStar = optional 3 0
+cost part.Lengths = optional 2 0
+cost part.Declarator = sure 8
+cost part.MoreDeclarators = optional 2 0
+cost part.StructMember = sure 8
+cost part.MoreMembers = optional 2 10
+cost part.Location = optional 2 0
+cost part.Initial = optional 2 0
+cost part.Init = sure 15
+cost part.MoreInits = optional 2 0
+cost part.AfterInitComma = optional 2 17
+cost part.InitDeclarator = sure 14
+cost part.MoreInitDeclarators = optional 2 0
+cost part.Object = sure 8
+cost part.Statement = sure 19
+cost part.OptionalElse = optional 2 0
+cost part.ForFirst = sure 19
+cost part.SwitchItems = optional 2 2
+cost part.Label = sure 0
+cost part.MoreSwitchItems = optional 2 21
+cost part.Items = optional 2 21
+cost part.Units = optional 2 12
+cost part.Unit = sure 10
+cost part.AfterVolatile = sure 11
+cost part.RegisterType = sure 0
+cost part.AfterTag = sure 10
+cost part.ExternalRest = sure 10
+cost part.FunctionEnd = sure 0
+cost part.Parameters = optional 2 8
+cost part.AfterVoid = optional 2 7
+cost part.Parameter = sure 6
+cost part.ParameterTail = sure 0
+cost part.ParameterAfterStar = sure 2
+cost part.ParameterEnd = optional 3 0
+cost part.ParameterLength = sure 20
+cost part.MoreParameters = optional 2 0
 
--- it surely takes a token
-unfoldable pub is_sure_symbol : Symbol → Bool
-is_sure_symbol (symbol.Take _) = true
-is_sure_symbol (symbol.Read part) = is_sure part
-is_sure_symbol (symbol.Reduce _) = false
+unfoldable pub is_sure : Cost → Bool
+is_sure (sure _) = true
+is_sure (optional _ _) = false
 
-unfoldable pub symbol_weight : Symbol → ℕ
-symbol_weight (symbol.Take _) = 1
-symbol_weight (symbol.Read part) = weight part
-symbol_weight (symbol.Reduce _) = 1
+-- the steps without a token
+unfoldable pub skipped : Cost → ℕ
+skipped (sure _) = 0
+skipped (optional steps _) = steps
 
--- the weight up to the first symbol that surely takes a token
+-- the steps before the token
+unfoldable pub begun : Cost → ℕ
+begun (sure steps) = steps
+begun (optional _ steps) = steps
+
+unfoldable pub symbol_cost : Symbol → Cost
+symbol_cost (symbol.Take _) = sure 0
+symbol_cost (symbol.Read part) = cost part
+symbol_cost (symbol.Reduce _) = optional 1 0
+
+-- the steps of all that may end without a token
+unfoldable pub kept : List Symbol → ℕ
+kept [] = 0
+kept (symbol ∷ symbols) = skipped (symbol_cost symbol) + kept symbols
+
+-- the steps before the next token, at most: some symbol begins it, up to the first that surely takes one
+unfoldable pub ahead : List Symbol → ℕ
+ahead [] = 0
+ahead (symbol ∷ symbols) = if is_sure (symbol_cost symbol) then begun (symbol_cost symbol) else max (begun (symbol_cost symbol)) (ahead symbols)
+
 unfoldable pub weigh : List Symbol → ℕ
-weigh [] = 0
-weigh (symbol ∷ symbols) = if is_sure_symbol symbol then symbol_weight symbol else symbol_weight symbol + weigh symbols
+weigh symbols = kept symbols + ahead symbols
 
--- is there one?
+-- some symbol surely takes a token
 unfoldable stops : List Symbol → Bool
 stops [] = false
-stops (symbol ∷ symbols) = is_sure_symbol symbol || stops symbols
+stops (symbol ∷ symbols) = is_sure (symbol_cost symbol) || stops symbols
 
-unfoldable is_take : Move → Bool
-is_take move.Take = true
-is_take move.Stay = false
+-- the most steps before a token, for any symbols
+abbrev most_ahead : ℕ
+most_ahead = 30
 
--- what it is replaced by is lighter than the part
-unfoldable is_light : Part → Rule → Bool
-is_light part rule = is_take rule.move || (nat_lt (weigh rule.symbols) (weight part) && (not (is_sure part) || stops rule.symbols))
+-- the part pays for a step into these symbols, with what the token brings where the step takes one
+unfoldable pays : Cost → Move → List Symbol → Bool
+pays part move.Take symbols = nat_le (1 + kept symbols + most_ahead) (skipped part + begun part + each_token)
+pays part move.Stay symbols =
+    if stops symbols then nat_le (1 + kept symbols + ahead symbols) (skipped part + begun part)
+    else not (is_sure part) && (nat_le (1 + kept symbols) (skipped part) && nat_le (ahead symbols) (begun part))
 
--- each rule is, by computing
-all_light : (part : Part) → every (is_light part) (rules part) ≡ true
-unfolding weight is_sure is_sure_symbol symbol_weight weigh stops is_take is_light rules chain_rules chain_tail_rules words_rules
+unfoldable is_paid : Cost → Rule → Bool
+is_paid part rule = pays part rule.move rule.symbols
+
+-- no part has more steps before a token than any, and each of its rules is paid
+unfoldable is_light : Part → Bool
+is_light part = nat_le (begun (cost part)) most_ahead && every (is_paid (cost part)) (rules part)
+
+-- by computing
+all_light : (part : Part) → is_light part ≡ true
+unfolding cost is_sure skipped begun symbol_cost kept ahead stops pays is_paid is_light rules chain_rules chain_tail_rules words_rules
 all_light part.Expression = refl
 all_light part.CommaTail = refl
 all_light part.Assignment = refl
@@ -301,6 +247,9 @@ all_light part.Object = refl
 all_light part.Statement = refl
 all_light part.OptionalElse = refl
 all_light part.ForFirst = refl
+all_light part.SwitchItems = refl
+all_light part.Label = refl
+all_light part.MoreSwitchItems = refl
 all_light part.Items = refl
 all_light part.Units = refl
 all_light part.Unit = refl
@@ -318,39 +267,85 @@ all_light part.ParameterEnd = refl
 all_light part.ParameterLength = refl
 all_light part.MoreParameters = refl
 
--- where the first of two is false, the second is true
-either : (a b : Bool) → (a || b) ≡ true → a ≡ false → b ≡ true
-either true b h e = absurd (cc)
-either false b h e = h
+-- what symbols in front of others weigh
+kept_append : (front symbols : List Symbol) → kept (front ++ symbols) ≡ kept front + kept symbols
+unfolding kept
+kept_append [] symbols = omega arith
+kept_append (symbol ∷ front) symbols = omega (arith, kept_append front symbols)
 
-weigh_append_by : (sure stop : Bool) (first front all rest : ℕ) → all ≡ cond stop front (front + rest)
-    → cond sure first (first + all) ≡ cond (sure || stop) (cond sure first (first + front)) (cond sure first (first + front) + rest)
-weigh_append_by true stop first front all rest h = refl
-weigh_append_by false true first front all rest h = ap (λ n. first + n) h
-weigh_append_by false false first front all rest h = omega (arith, h)
+ahead_append_by : (sure stop : Bool) (first front all rest : ℕ) → all ≡ cond stop front (max front rest)
+    → cond sure first (max first all) ≡ cond (sure || stop) (cond sure first (max first front)) (max (cond sure first (max first front)) rest)
+ahead_append_by true stop first front all rest h = refl
+ahead_append_by false true first front all rest h = ap (λ n. max first n) h
+ahead_append_by false false first front all rest h = omega (arith, h)
 
--- the weight of symbols in front of others
-weigh_append : (front symbols : List Symbol) → weigh (front ++ symbols) ≡ cond (stops front) (weigh front) (weigh front + weigh symbols)
-unfolding weigh stops
-weigh_append [] symbols = sym (zero-add (weigh symbols))
-weigh_append (symbol ∷ front) symbols =
-    weigh_append_by (is_sure_symbol symbol) (stops front) (symbol_weight symbol) (weigh front) (weigh (front ++ symbols)) (weigh symbols)
-    (weigh_append front symbols)
+ahead_append : (front symbols : List Symbol) → ahead (front ++ symbols) ≡ cond (stops front) (ahead front) (max (ahead front) (ahead symbols))
+unfolding ahead stops
+ahead_append [] symbols = omega arith
+ahead_append (symbol ∷ front) symbols =
+    ahead_append_by (is_sure (symbol_cost symbol)) (stops front) (begun (symbol_cost symbol)) (ahead front) (ahead (front ++ symbols)) (ahead symbols)
+    (ahead_append front symbols)
 
-lighter_by : (sure stop : Bool) (new old rest : ℕ) → new < old → (not sure || stop) ≡ true → cond stop new (new + rest) < cond sure old (old + rest)
-lighter_by true true new old rest less h = less
-lighter_by true false new old rest less h = absurd (cc)
-lighter_by false true new old rest less h = omega arith
-lighter_by false false new old rest less h = omega arith
+-- no symbol has more steps before a token than any
+begun_most : (s : Symbol) → begun (symbol_cost s) ≤ most_ahead
+unfolding symbol_cost begun is_light
+begun_most (symbol.Take _) = omega arith
+begun_most (symbol.Read part) = leb-true _ _ (first_so _ _ (all_light part))
+begun_most (symbol.Reduce _) = omega arith
 
--- what a part is replaced by without taking a token is lighter, whatever is behind it
+ahead_most_by : (sure : Bool) (first rest : ℕ) → first ≤ most_ahead → rest ≤ most_ahead → cond sure first (max first rest) ≤ most_ahead
+ahead_most_by true first rest h k = h
+ahead_most_by false first rest h k = omega arith
+
+ahead_most : (symbols : List Symbol) → ahead symbols ≤ most_ahead
+unfolding ahead
+ahead_most [] = omega arith
+ahead_most (symbol ∷ symbols) = ahead_most_by (is_sure (symbol_cost symbol)) (begun (symbol_cost symbol)) (ahead symbols) (begun_most symbol) (ahead_most symbols)
+
+stay_by : (sure stop : Bool) (skip begin new front rest behind : ℕ)
+    → cond stop (nat_le (1 + new + front) (skip + begin)) (not sure && (nat_le (1 + new) skip && nat_le front begin)) ≡ true
+    → new + rest + cond stop front (max front behind) < skip + rest + cond sure begin (max begin behind)
+stay_by true true skip begin new front rest behind h = let paid : 1 + new + front ≤ skip + begin = leb-true (1 + new + front) (skip + begin) h in omega arith
+stay_by false true skip begin new front rest behind h = let paid : 1 + new + front ≤ skip + begin = leb-true (1 + new + front) (skip + begin) h in omega arith
+stay_by true false skip begin new front rest behind h = absurd (cc)
+stay_by false false skip begin new front rest behind h =
+    let steps : 1 + new ≤ skip = leb-true (1 + new) skip (first_so (nat_le (1 + new) skip) (nat_le front begin) h) in
+    let first : front ≤ begin = leb-true front begin (second_so (nat_le (1 + new) skip) (nat_le front begin) h) in
+    omega (arith, steps, first)
+
+-- each step into what a rule says is paid
+paid : (part : Part) (kind : Kind) (rule : Rule) (m : Move) → choose (rules part) kind ≡ Some rule → rule.move ≡ m → pays (cost part) m rule.symbols ≡ true
+unfolding is_light is_paid
+paid part kind rule m chosen same =
+    subst (λ m. pays (cost part) m rule.symbols ≡ true) same
+    (every_chosen (is_paid (cost part)) (rules part) kind rule (second_so _ _ (all_light part)) chosen)
+
+-- a step that takes no token leaves less
 pub lighter : (part : Part) (kind : Kind) (rule : Rule) (symbols : List Symbol) → choose (rules part) kind ≡ Some rule → rule.move ≡ move.Stay
     → weigh (rule.symbols ++ symbols) < weigh (symbol.Read part ∷ symbols)
-unfolding weigh is_light is_take is_sure_symbol symbol_weight
+unfolding weigh kept ahead symbol_cost pays
 lighter part kind rule symbols chosen stay =
-    let light = every_chosen (is_light part) (rules part) kind rule (all_light part) chosen in
-    let no_take : is_take rule.move ≡ false = ap is_take stay in
-    let parts = either (is_take rule.move) (nat_lt (weigh rule.symbols) (weight part) && (not (is_sure part) || stops rule.symbols)) light no_take in
-    let less : weigh rule.symbols < weight part = ltb-true (weigh rule.symbols) (weight part) (first_so _ _ parts) in
-    subst (λ n. n < cond (is_sure part) (weight part) (weight part + weigh symbols)) (sym (weigh_append rule.symbols symbols))
-    (lighter_by (is_sure part) (stops rule.symbols) (weigh rule.symbols) (weight part) (weigh symbols) less (second_so _ _ parts))
+    rw (kept_append rule.symbols symbols, ahead_append rule.symbols symbols)
+    (stay_by (is_sure (cost part)) (stops rule.symbols) (skipped (cost part)) (begun (cost part)) (kept rule.symbols) (ahead rule.symbols) (kept symbols)
+    (ahead symbols) (paid part kind rule move.Stay chosen stay))
+
+more_ahead : (sure : Bool) (begin behind : ℕ) → begin ≤ cond sure begin (max begin behind)
+more_ahead true begin behind = omega arith
+more_ahead false begin behind = omega arith
+
+-- a step that takes a token is paid with what the token brings
+pub rule_paid : (part : Part) (kind : Kind) (rule : Rule) (symbols : List Symbol) → choose (rules part) kind ≡ Some rule → rule.move ≡ move.Take
+    → weigh (rule.symbols ++ symbols) < weigh (symbol.Read part ∷ symbols) + each_token
+unfolding weigh kept ahead symbol_cost pays
+rule_paid part kind rule symbols chosen take =
+    let steps : 1 + kept rule.symbols + most_ahead ≤ skipped (cost part) + begun (cost part) + each_token =
+    leb-true _ _ (paid part kind rule move.Take chosen take) in
+    omega (arith, steps, kept_append rule.symbols symbols, ahead_most (rule.symbols ++ symbols), more_ahead (is_sure (cost part)) (begun (cost part)) (ahead symbols))
+
+pub take_paid : (t : Terminal) (symbols : List Symbol) → weigh symbols < weigh (symbol.Take t ∷ symbols) + each_token
+unfolding weigh kept ahead symbol_cost is_sure skipped begun
+take_paid t symbols = omega (arith, ahead_most symbols)
+
+pub made_paid : (p : Production) (symbols : List Symbol) → weigh symbols < weigh (symbol.Reduce p ∷ symbols)
+unfolding weigh kept ahead symbol_cost is_sure skipped begun
+made_paid p symbols = omega arith

@@ -17,7 +17,7 @@ use Rattle.creader.specs.declared.part.Symbol.{Symbol}
 use Rattle.creader.specs.declared.part.Symbol.TheVariants as symbol
 use Rattle.cgrammar.specs.Terminal.{accepts, keyword_number, punctuator_number}
 use Rattle.cgrammar.specs.Grammar as class
-use Rattle.cgrammar.specs.Grammar.{Class, Piece, word, sign, under, is_wider, class_number, words_number, operator_level, operator_token, assignment_class, assignment_token, word_token, alone, before, joined, home, template}
+use Rattle.cgrammar.specs.Grammar.{Class, Piece, word, sign, under, is_wider, class_number, words_number, operator_level, operator_token, comparison_level, comparison_token, logical_level, logical_token, assignment_token, word_token, alone, before, joined, home, template}
 use Rattle.creader.specs.Rules.{Rule, rules, chain_rules, chain_tail_rules, words_rules}
 use Rattle.creader.proofs.Sound.Kinds.{keywords, punctuators, plain_kinds, every_kind}
 use Rattle.creader.proofs.Sound.Order.{covered, below}
@@ -110,6 +110,9 @@ exit part.Object = class.object
 exit part.Statement = class.statement
 exit part.OptionalElse = class.optional_else
 exit part.ForFirst = class.for_first
+exit part.SwitchItems = class.switch_items
+exit part.Label = class.label
+exit part.MoreSwitchItems = class.more_switch_items
 exit part.Items = class.items
 exit part.Units = class.units
 exit part.Unit = class.unit
@@ -162,7 +165,7 @@ rule_keeps p rule = move_keeps p rule.move rule.on rule.symbols
 
 -- all rules of a part do, which computes
 unfoldable pub keeps : Part → Bool
-unfolding rules chain_rules chain_tail_rules words_rules accepts keyword_number punctuator_number under is_wider class_number words_number operator_level operator_token assignment_class assignment_token word_token alone before joined home template keywords punctuators plain_kinds every_kind covered below chain_level entry exit strip turned types move_keeps
+unfolding rules chain_rules chain_tail_rules words_rules accepts keyword_number punctuator_number under is_wider class_number words_number operator_level operator_token comparison_level comparison_token logical_level logical_token assignment_token word_token alone before joined home template keywords punctuators plain_kinds every_kind covered below chain_level entry exit strip turned types move_keeps
 keeps p = list_all (rule_keeps p) (rules p)
 
 pub each-keeps : (p : Part) → keeps p ≡ true

@@ -3,7 +3,7 @@
 use crate::part::Symbol::{Read, Reduce};
 use crate::part::{Move, Part, Rule};
 use cgrammar::{Level, Production, Terminal};
-use csyn::{BinaryOperator, Punctuator};
+use csyn::{BinaryOperator, ComparisonOperator, LogicalOperator, Punctuator};
 
 pub const CHAIN_OR: [Rule; 1] = [(
     &[Terminal::Any],
@@ -20,7 +20,7 @@ pub const CHAIN_TAIL_OR: [Rule; 2] = [
         Move::Take,
         &[
             Read(Part::Chain(Level::And)),
-            Reduce(Production::Binary(BinaryOperator::Or)),
+            Reduce(Production::Logical(LogicalOperator::Or)),
             Read(Part::ChainTail(Level::Or)),
         ],
     ),
@@ -42,7 +42,7 @@ pub const CHAIN_TAIL_AND: [Rule; 2] = [
         Move::Take,
         &[
             Read(Part::Chain(Level::BitOr)),
-            Reduce(Production::Binary(BinaryOperator::And)),
+            Reduce(Production::Logical(LogicalOperator::And)),
             Read(Part::ChainTail(Level::And)),
         ],
     ),
@@ -130,7 +130,7 @@ pub const CHAIN_TAIL_EQUALITY: [Rule; 3] = [
         Move::Take,
         &[
             Read(Part::Chain(Level::Relation)),
-            Reduce(Production::Binary(BinaryOperator::Equal)),
+            Reduce(Production::Comparison(ComparisonOperator::Equal)),
             Read(Part::ChainTail(Level::Equality)),
         ],
     ),
@@ -139,7 +139,7 @@ pub const CHAIN_TAIL_EQUALITY: [Rule; 3] = [
         Move::Take,
         &[
             Read(Part::Chain(Level::Relation)),
-            Reduce(Production::Binary(BinaryOperator::NotEqual)),
+            Reduce(Production::Comparison(ComparisonOperator::NotEqual)),
             Read(Part::ChainTail(Level::Equality)),
         ],
     ),
@@ -161,7 +161,7 @@ pub const CHAIN_TAIL_RELATION: [Rule; 5] = [
         Move::Take,
         &[
             Read(Part::Chain(Level::Shift)),
-            Reduce(Production::Binary(BinaryOperator::Less)),
+            Reduce(Production::Comparison(ComparisonOperator::Less)),
             Read(Part::ChainTail(Level::Relation)),
         ],
     ),
@@ -170,7 +170,7 @@ pub const CHAIN_TAIL_RELATION: [Rule; 5] = [
         Move::Take,
         &[
             Read(Part::Chain(Level::Shift)),
-            Reduce(Production::Binary(BinaryOperator::Greater)),
+            Reduce(Production::Comparison(ComparisonOperator::Greater)),
             Read(Part::ChainTail(Level::Relation)),
         ],
     ),
@@ -179,7 +179,7 @@ pub const CHAIN_TAIL_RELATION: [Rule; 5] = [
         Move::Take,
         &[
             Read(Part::Chain(Level::Shift)),
-            Reduce(Production::Binary(BinaryOperator::LessEqual)),
+            Reduce(Production::Comparison(ComparisonOperator::LessEqual)),
             Read(Part::ChainTail(Level::Relation)),
         ],
     ),
@@ -188,7 +188,7 @@ pub const CHAIN_TAIL_RELATION: [Rule; 5] = [
         Move::Take,
         &[
             Read(Part::Chain(Level::Shift)),
-            Reduce(Production::Binary(BinaryOperator::GreaterEqual)),
+            Reduce(Production::Comparison(ComparisonOperator::GreaterEqual)),
             Read(Part::ChainTail(Level::Relation)),
         ],
     ),

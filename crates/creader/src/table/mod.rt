@@ -143,6 +143,9 @@ pub fn rules(part: Part) -> &'static [Rule]
         Part::Statement => &statement::STATEMENT,
         Part::OptionalElse => &statement::OPTIONAL_ELSE,
         Part::ForFirst => &statement::FOR_FIRST,
+        Part::SwitchItems => &statement::SWITCH_ITEMS,
+        Part::Label => &statement::LABEL,
+        Part::MoreSwitchItems => &statement::MORE_SWITCH_ITEMS,
         Part::Items => &statement::ITEMS,
         // unit
         Part::Units => &unit::UNITS,

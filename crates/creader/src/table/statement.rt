@@ -5,7 +5,13 @@ use crate::table::TYPE_STARTS;
 use cgrammar::{Production, Terminal};
 use csyn::{Keyword, Punctuator};
 
-pub const STATEMENT: [Rule; 10] = [
+/// What a label of a `switch` begins with.
+const LABEL_STARTS: &[Terminal] = &[
+    Terminal::Keyword(Keyword::Case),
+    Terminal::Keyword(Keyword::Default),
+];
+
+pub const STATEMENT: [Rule; 11] = [
     (
         &[Terminal::Punctuator(Punctuator::LeftBrace)],
         Move::Take,
@@ -63,6 +69,19 @@ pub const STATEMENT: [Rule; 10] = [
             Take(Terminal::Punctuator(Punctuator::RightParenthesis)),
             Read(Part::Statement),
             Reduce(Production::For),
+        ],
+    ),
+    (
+        &[Terminal::Keyword(Keyword::Switch)],
+        Move::Take,
+        &[
+            Take(Terminal::Punctuator(Punctuator::LeftParenthesis)),
+            Read(Part::Expression),
+            Take(Terminal::Punctuator(Punctuator::RightParenthesis)),
+            Take(Terminal::Punctuator(Punctuator::LeftBrace)),
+            Read(Part::SwitchItems),
+            Take(Terminal::Punctuator(Punctuator::RightBrace)),
+            Reduce(Production::Switch),
         ],
     ),
     (
@@ -138,6 +157,70 @@ pub const FOR_FIRST: [Rule; 2] = [
             Read(Part::OptionalExpression),
             Take(Terminal::Punctuator(Punctuator::Semicolon)),
             Reduce(Production::ForExpression),
+        ],
+    ),
+];
+
+/// They are none or begin with a label.
+pub const SWITCH_ITEMS: [Rule; 2] = [
+    (
+        LABEL_STARTS,
+        Move::Stay,
+        &[
+            Read(Part::Label),
+            Read(Part::MoreSwitchItems),
+            Reduce(Production::FirstLabel),
+        ],
+    ),
+    (
+        &[Terminal::Any],
+        Move::Stay,
+        &[Reduce(Production::NoSwitchItems)],
+    ),
+];
+
+pub const LABEL: [Rule; 2] = [
+    (
+        &[Terminal::Keyword(Keyword::Case)],
+        Move::Take,
+        &[
+            Read(Part::Expression),
+            Take(Terminal::Punctuator(Punctuator::Colon)),
+            Reduce(Production::CaseLabel),
+        ],
+    ),
+    (
+        &[Terminal::Keyword(Keyword::Default)],
+        Move::Take,
+        &[
+            Take(Terminal::Punctuator(Punctuator::Colon)),
+            Reduce(Production::DefaultLabel),
+        ],
+    ),
+];
+
+pub const MORE_SWITCH_ITEMS: [Rule; 3] = [
+    (
+        &[Terminal::Punctuator(Punctuator::RightBrace)],
+        Move::Stay,
+        &[Reduce(Production::EndSwitchItems)],
+    ),
+    (
+        LABEL_STARTS,
+        Move::Stay,
+        &[
+            Read(Part::Label),
+            Read(Part::MoreSwitchItems),
+            Reduce(Production::NextLabel),
+        ],
+    ),
+    (
+        &[Terminal::Any],
+        Move::Stay,
+        &[
+            Read(Part::Statement),
+            Read(Part::MoreSwitchItems),
+            Reduce(Production::NextSwitchStatement),
         ],
     ),
 ];

@@ -20,7 +20,7 @@ use Rattle.creader.proofs.Complete.Firsts.{begins-as, may_begin, firsts, nullabl
 use Rattle.creader.proofs.Complete.Sequence.{readers, fits, ends_open, before_end, sequence-reads}
 use Rattle.creader.proofs.Complete.Heads.{may_end, Heads, AllKnown, is_expression, is_bare_name, is_name_node, level_of, levels_of, postfix_numbers, tail_of, tail_symbol, inner, symbols_of, barred, barred_of, starts_expression}
 use Rattle.creader.proofs.Complete.Expressions.Tables.{when, when-at}
-use Rattle.creader.proofs.Complete.Productions.{production_number, operator_number}
+use Rattle.creader.proofs.Complete.Productions.{production_number, operator_number, comparison_number, logical_number}
 use Rattle.creader.proofs.Complete.Expressions.Symbols.{same, same_symbol, symbol_number, same-path}
 use Rattle.creader.proofs.Complete.Expressions.Entering.{is_open, behind-heads}
 
@@ -93,7 +93,7 @@ beginning-holds : (p : Production) → is_beginning p ≡ true → starts p (fir
 unfolding is_beginning starts behind_symbols template first_terminal other_pieces every_kind each kinds when starts_expression firsts nullable
     may_begin any_accepts
     accepts keyword_number punctuator_number choose rules inner symbols_of tail_symbol postfix_numbers is_bare_name same same_symbol symbol_number
-    production_number operator_number readers fits ends_open before_end reader level_reader has_reader follow allows is_statement extenders
+    production_number operator_number comparison_number logical_number readers fits ends_open before_end reader level_reader has_reader follow allows is_statement extenders
     operators_from barred level_of home
 beginning-holds make.Number h = refl
 beginning-holds make.Character h = refl

@@ -23,7 +23,7 @@ use Rattle.creader.proofs.Complete.Steps.{join}
 use Rattle.creader.proofs.Complete.Firsts.{Begins, begins-as, firsts, nullable, written-begins, sign}
 use Rattle.creader.proofs.Complete.Heads.{Heads, Behind, Ends, is_expression, is_bare_name, is_name_node, level_of, levels_of, left, left_numbers, postfix_numbers, after_numbers, chain_numbers, tail_of, tail_symbol, inner, symbols_of, starts_expression}
 use Rattle.creader.proofs.Complete.Expressions.Tables.{when, when-at, every_below, below-at, level_zero}
-use Rattle.creader.proofs.Complete.Productions.{production_number, operator_number}
+use Rattle.creader.proofs.Complete.Productions.{production_number, operator_number, comparison_number, logical_number}
 use Rattle.creader.proofs.Complete.Expressions.Symbols.{same, same_symbol, symbol_number, same-path}
 use Rattle.creader.proofs.Complete.Expressions.Stays.{takes, takes_now, taken, taken_by, settle, once, stayed, stayed_by, takes-reaches, settle-reaches}
 use Rattle.creader.proofs.Complete.Expressions.Tails.{expression-level}
@@ -91,7 +91,7 @@ levels-enter : levels_enter ≡ true
 unfolding levels_enter every_below enters every_kind each kinds when starts_expression firsts any_accepts accepts keyword_number punctuator_number
     takes takes_now taken taken_by settle once stayed stayed_by choose rules chain_rules chain_tail_rules level_reader chain_of chain_part opened_at
     steps_at
-    tail_symbol after_numbers chain_numbers inner symbols_of same same_symbol symbol_number production_number operator_number
+    tail_symbol after_numbers chain_numbers inner symbols_of same same_symbol symbol_number production_number operator_number comparison_number logical_number
 levels-enter = refl
 
 -- what is left does not tell levels 14 and 15 apart, but for the tail of level 15

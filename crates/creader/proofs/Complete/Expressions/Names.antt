@@ -12,7 +12,7 @@ use Rattle.cgrammar.specs.Kind.{kind_of}
 use Rattle.cgrammar.specs.Terminal.{accepts, keyword_number, punctuator_number}
 use Rattle.creader.specs.Rules.{rules, choose, any_accepts}
 use Rattle.cgrammar.specs.Grammar as class
-use Rattle.cgrammar.specs.Grammar.{Piece, sign, template, home, under, is_wider, class_number, words_number, operator_level, assignment_class, alone, joined}
+use Rattle.cgrammar.specs.Grammar.{Piece, sign, template, home, under, is_wider, class_number, words_number, operator_level, comparison_level, logical_level, alone, joined}
 use Rattle.cgrammar.specs.Text.{Written, leaf, node, Forest, none, more, spells, Match, IsProper, dangles}
 use Rattle.creader.specs.Machine.{at, Reaches}
 use Rattle.creader.proofs.Complete.Reading.{reader, has_reader, follow, allows, is_statement}
@@ -23,13 +23,13 @@ use Rattle.creader.proofs.Complete.Firsts.{may_begin, firsts, nullable}
 use Rattle.creader.proofs.Complete.Sequence.{readers, fits, ends_open, before_end, sequence-reads}
 use Rattle.creader.proofs.Complete.Heads.{may_end, Heads, Behind, AllKnown, is_expression, is_level, is_bare_name, is_name_node, level_of, levels_of, postfix_numbers, tail_of, tail_symbol, inner, symbols_of, barred, barred_of}
 use Rattle.creader.proofs.Complete.Expressions.Tables.{when, when-at}
-use Rattle.creader.proofs.Complete.Productions.{production_number, operator_number}
+use Rattle.creader.proofs.Complete.Productions.{production_number, operator_number, comparison_number, logical_number}
 use Rattle.creader.proofs.Complete.Expressions.Symbols.{same, same_symbol, symbol_number, same-path}
 use Rattle.creader.proofs.Complete.Expressions.Stays.{settles, settles-reaches, takes, takes-reaches, takes_now, taken, taken_by, settle, once, stayed, stayed_by}
 use Rattle.creader.proofs.Complete.Expressions.Entering.{is_open, behind-heads}
 
 identifier-list : makers class.identifier ≡ make.Identifier ∷ []
-unfolding makers kept productions under home is_wider class_number words_number operator_level assignment_class alone joined
+unfolding makers kept productions under home is_wider class_number words_number operator_level comparison_level logical_level alone joined
 identifier-list = refl
 
 only_identifier : (p : Production) → under (home p) class.identifier ≡ true → p ≡ make.Identifier
@@ -62,7 +62,7 @@ name_inner = every_kind (λ k. when (accepts terminal.Name k) (λ _. same (inner
 name-inner : name_inner ≡ true
 unfolding name_inner every_kind each kinds when accepts keyword_number punctuator_number any_accepts inner symbols_of choose rules same same_symbol
     symbol_number
-    production_number operator_number
+    production_number operator_number comparison_number logical_number
 name-inner = refl
 
 unfoldable name_closed : Bool
@@ -79,7 +79,7 @@ name_alone = every_kind (λ k. when (may_end make.Name k) (λ _. settles (symbol
 name-alone : name_alone ≡ true
 unfolding name_alone every_kind each kinds when accepts keyword_number punctuator_number any_accepts barred settles settle once stayed stayed_by
     choose rules same
-    same_symbol symbol_number production_number operator_number
+    same_symbol symbol_number production_number operator_number comparison_number logical_number
 name-alone = refl
 
 abbrev call_pieces : List Piece
@@ -92,7 +92,7 @@ name_called = every_kind (λ k. when (is_open k) (λ _. takes (symbol.Read part.
 name-called : name_called ≡ true
 unfolding name_called every_kind each kinds when accepts keyword_number punctuator_number any_accepts takes takes_now taken taken_by settle once
     stayed stayed_by choose
-    rules same same_symbol symbol_number production_number operator_number readers reader
+    rules same same_symbol symbol_number production_number operator_number comparison_number logical_number readers reader
 name-called = refl
 
 call-fits : fits call_pieces (may_end make.CallFunction) ≡ true

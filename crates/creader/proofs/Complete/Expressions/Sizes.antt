@@ -23,7 +23,7 @@ use Rattle.creader.proofs.Complete.Sequence.{readers, fits, ends_open, before_en
 use Rattle.creader.proofs.Complete.Heads.{may_end, Heads, Behind, AllKnown, is_expression, is_level, is_bare_name, is_name_node, level_of, levels_of, left, left_numbers, postfix_numbers, after_numbers, chain_numbers, tail_of, tail_symbol, inner, symbols_of, starts_expression, barred, barred_of}
 use Rattle.creader.proofs.Complete.KnownReads.{known-heads, under-level, level-under}
 use Rattle.creader.proofs.Complete.Expressions.Tables.{when, when-at, every_below, below-at}
-use Rattle.creader.proofs.Complete.Productions.{production_number, operator_number}
+use Rattle.creader.proofs.Complete.Productions.{production_number, operator_number, comparison_number, logical_number}
 use Rattle.creader.proofs.Complete.Expressions.Symbols.{same, same_symbol, symbol_number, same-path}
 use Rattle.creader.proofs.Complete.Expressions.Stays.{takes, takes-reaches, takes_now, taken, taken_by, settle, once, stayed, stayed_by}
 use Rattle.creader.proofs.Complete.Expressions.Tails.{allowed, gone-reaches, left-gone, expression-ends, expression-level}
@@ -62,7 +62,7 @@ sizeof-enters : enters (symbol.Read part.SizeofOperand ∷ []) (symbol.Read part
     (symbol.Reduce make.SizeofExpression ∷ []) ≡ true
 unfolding enters every_kind each kinds when starts_expression firsts any_accepts accepts keyword_number punctuator_number
     takes takes_now taken taken_by settle once stayed stayed_by choose rules inner symbols_of same same_symbol symbol_number production_number
-    operator_number
+    operator_number comparison_number logical_number
 sizeof-enters = refl
 
 -- of an expression of level 14 or 15 only its tail is left where one of level 14 is wanted

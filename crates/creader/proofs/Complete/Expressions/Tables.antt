@@ -7,7 +7,7 @@ use Rattle.cgrammar.specs.declared.production.Word.TheVariants as word
 use Rattle.cgrammar.specs.declared.production.Words.{Words}
 use Rattle.cgrammar.specs.declared.production.Words.TheVariants as every_word
 use Rattle.cgrammar.specs.Grammar as class
-use Rattle.cgrammar.specs.Grammar.{Class, home, under, is_wider, class_number, words_number, operator_level, assignment_class, alone, joined}
+use Rattle.cgrammar.specs.Grammar.{Class, home, under, is_wider, class_number, words_number, operator_level, comparison_level, logical_level, alone, joined}
 use Rattle.creader.proofs.Complete.Kinds.{each}
 use Rattle.creader.proofs.Complete.Productions.{productions, kept, makers, In, in-makers}
 use Rattle.creader.proofs.Complete.Heads.{is_expression, is_level}
@@ -42,7 +42,7 @@ below-at (suc n) test h i l = at_last_or_below test i n (either_way i n l) (and_
 
 -- at the productions of expressions
 unfoldable pub every_expression : (Production → Bool) → Bool
-unfolding makers kept productions under home is_wider class_number words_number operator_level assignment_class alone joined
+unfolding makers kept productions under home is_wider class_number words_number operator_level comparison_level logical_level alone joined
 every_expression test = each test (makers (class.level 0))
 
 each-in : (test : Production → Bool) (ps : List Production) (p : Production) → each test ps ≡ true → In p ps → test p ≡ true

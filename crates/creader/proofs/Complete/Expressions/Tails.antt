@@ -8,7 +8,7 @@ use Rattle.creader.specs.declared.part.Symbol.{Symbol}
 use Rattle.cgrammar.specs.Kind.{kind_of}
 use Rattle.cgrammar.specs.Terminal.{accepts, keyword_number, punctuator_number}
 use Rattle.creader.specs.Rules.{rules, chain_rules, chain_tail_rules, choose, any_accepts}
-use Rattle.cgrammar.specs.Grammar.{home, operator_level, assignment_class}
+use Rattle.cgrammar.specs.Grammar.{home, operator_level, comparison_level, logical_level}
 use Rattle.cgrammar.specs.Text.{Written}
 use Rattle.creader.specs.Machine.{at, Reaches}
 use Rattle.creader.proofs.Complete.Reading.{extenders, operators_from}
@@ -50,7 +50,7 @@ ends_test = every_expression (λ p. when (is_expression p) (λ _. nat_le (level_
     && every_kind (λ k. when (allowed (level_of (home p)) k) (λ _. not (any_accepts (barred p) k)))))
 
 ends_holds : ends_test ≡ true
-unfolding ends_test every_expression is_expression is_level home assignment_class operator_level level_of barred every_kind each kinds when allowed
+unfolding ends_test every_expression is_expression is_level home operator_level comparison_level logical_level level_of barred every_kind each kinds when allowed
     any_accepts accepts keyword_number punctuator_number extenders operators_from
 ends_holds = refl
 

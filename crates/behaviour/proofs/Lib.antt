@@ -1,0 +1,4 @@
+pub mod RanLemmas
+pub mod MachineLemmas
+pub mod SimulatesLemmas
+pub mod ExtendsLemmas

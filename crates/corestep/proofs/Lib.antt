@@ -1,0 +1,3 @@
+pub mod BitSearch
+pub mod PieceLemmas
+pub mod NoteLemmas

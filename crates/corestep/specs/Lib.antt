@@ -1,0 +1,9 @@
+pub mod Fields
+pub mod Memory
+pub mod Cost
+pub mod Pieces
+pub mod Compute
+pub mod Core
+pub mod Effect
+pub mod Given
+pub mod Step

@@ -1,0 +1,10 @@
+mod Entries
+mod Names
+mod Depth
+mod Stages
+mod Taking
+mod Closing
+mod Walking
+mod Ending
+mod Ends
+mod Reading

@@ -1,0 +1,11 @@
+pub mod Line
+pub mod Directive
+pub mod Standard
+pub mod Replacement
+pub mod Expansion
+pub mod Held
+pub mod Replacing
+pub mod Fate
+pub mod Given
+pub mod Stated
+pub mod Closing

@@ -1,0 +1,5 @@
+pub mod Arithmetic
+pub mod Content
+pub mod Layout
+pub mod Scalar
+pub mod Value

@@ -1,7 +1,0 @@
-use Rattle.std.proofs.Common.{◌≡◌}
-use Rattle.csyn.specs.Expressions.{numbered, declarators_expressions}
-use Rattle.csyn.proofs.lookup.in_declarators.Given as goal
-
--- what is left of the list has the first one
-abbrev pub invariant-loop-left : goal.invariant-loop-left
-invariant-loop-left l = numbered l.number (declarators_expressions l.initial.left) ≡ numbered l.number (declarators_expressions l.left)

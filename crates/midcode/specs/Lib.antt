@@ -1,0 +1,11 @@
+pub mod Operation
+pub mod Value
+pub mod Function
+pub mod Structure
+pub mod Stored
+pub mod Program
+pub mod Cost
+pub mod Machine
+pub mod Meaning
+pub mod Region
+pub mod Weight
