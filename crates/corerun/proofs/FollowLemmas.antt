@@ -137,7 +137,14 @@ store_reads_nothing false x y left right = right
 stored_reads_nothing : (registers ram : List ℕ) (addr : ℕ) (bytes : List ℕ) → values_of (stored registers ram addr bytes).events ≡ []
 stored_reads_nothing registers ram addr bytes =
     let outside : Effect =
-    record { registers = registers; ram = ram_after ram addr bytes; events = access_events true addr bytes; at = addr; stored = bytes; goes = Behind } in
+    record {
+      registers = registers;
+      ram = ram_after ram addr bytes;
+      events = access_events true addr bytes;
+      at = addr;
+      stored = bytes;
+      goes = Behind;
+    } in
     store_reads_nothing (is_private addr (length bytes)) (shows registers (with_bytes addr bytes ram) [] Behind) outside refl
     (stores_read_nothing (pieces addr bytes))
 
@@ -161,7 +168,8 @@ module _ (behind : ℕ) (registers ram : List ℕ) (input : Input) (fits : Input
       values_of (cond b (shows private ram [] Behind) (shows other ram (access_events false addr bytes) Behind)).events
 
   load_takes : (b : Bool) (addr n : ℕ) (private other bytes values : List ℕ) → length bytes ≡ n → AllByRecursion (λ v. v < 256) bytes
-      → and_take (cond b (Some ([], load_reads b addr private other bytes ++ values)) (take_bytes (widths_of n) (load_reads b addr private other bytes ++ values)))
+      → and_take (cond b (Some ([], load_reads b addr private other bytes ++ values))
+      (take_bytes (widths_of n) (load_reads b addr private other bytes ++ values)))
       with_load
       ≡ with_load (cond b [] bytes) values
   load_takes true addr n private other bytes values long small = refl
@@ -230,7 +238,8 @@ module _ (behind : ℕ) (registers ram : List ℕ) (input : Input) (fits : Input
       record {
         given = record { first = 0; second = 0; bytes = []; pads = pads };
         takes =
-            ap (λ (n : ℕ). and_take (take_words n (values_of (pad_events false (bank_number t.bank) t.first pads) ++ values)) with_pads) (sym long)
+            ap (λ (n : ℕ). and_take (take_words n (values_of (pad_events false (bank_number t.bank) t.first pads) ++ values)) with_pads)
+            (sym long)
             ∙ ap (λ (u : Taken (List ℕ)). and_take u with_pads) (pads_taken (bank_number t.bank) t.first pads values small);
         same = refl;
       }
@@ -250,7 +259,8 @@ module _ (behind : ℕ) (registers ram : List ℕ) (input : Input) (fits : Input
         takes =
             ap (λ (es : List Event). and_take (take_source (Some a) (values_of es ++ values))
             (λ x us. and_take (take_source (field_of b) us) (λ y vs. Some (sources x y, vs))))
-            (sym (append-nil (field_reads (outer_of registers input.r31 a) a ++ operand_reads (outer_in registers input.r31 (field_of b)) b)))
+            (sym (append-nil (field_reads (outer_of registers input.r31 a) a
+            ++ operand_reads (outer_in registers input.r31 (field_of b)) b)))
             ∙ both_taken registers ram _ _ _ _ _ _ _ _ first second [] values refl;
         same = both_same registers ram _ _ _ _ _ _ _ _ first second
             (λ ra rb va vb. shows registers ram (ra ++ rb) (if is_taken condition va vb then Target else Behind));

@@ -19,10 +19,12 @@ pub fn word_laws()
     ensures step { (image : Contents) (s : State) (g : Given) → istep image s g ≡ code_step (code_of_words image) s g }
 {}
 
-/// A core alone that goes on, over the values that its next word reads in the machine, does what the word does there, and takes just these values.
+/// A core alone that goes on, over the values that its next word reads in the machine, does what the word does there, and takes just
+/// these values.
 #[tactic(auto, using(crate::proofs::AloneFollows::alone_follows))]
 pub fn follow_laws()
-    ensures { (image : Contents) (s : Alone) (input : Input) (i : Inst) (values : List ℕ) → InputFits s.core.registers input → s.stands ≡ Going
+    ensures { (image : Contents) (s : Alone) (input : Input) (i : Inst) (values : List ℕ)
+        → InputFits s.core.registers input → s.stands ≡ Going
         → inst_at image.words s.core.pc ≡ Some i → s.left ≡ values_of (stepped image s.core input).out.events ++ values
         → alone_step image s ≡ Done tt (after_step s values (stepped image s.core input)) }
 {}

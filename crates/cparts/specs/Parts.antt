@@ -206,8 +206,8 @@ one first make = pick first (λ a. only (Some (make a)))
 unfoldable pub two : {A B : Type 0} → (Value → Option A) → (Value → Option B) → (A → B → Value) → List Value → Option Value
 two first second make = pick first (λ a. one second (make a))
 
-unfoldable pub three : {A B C : Type 0} → (Value → Option A) → (Value → Option B) → (Value → Option C) → (A → B → C → Value) → List Value
-    → Option Value
+unfoldable pub three : {A B C : Type 0} → (Value → Option A) → (Value → Option B) → (Value → Option C)
+    → (A → B → C → Value) → List Value → Option Value
 three first second third make = pick first (λ a. two second third (make a))
 
 unfoldable pub four : {A B C D : Type 0} → (Value → Option A) → (Value → Option B) → (Value → Option C) → (Value → Option D)

@@ -1,5 +1,5 @@
 use Rattle.caction.proofs.statement.if_statement.Goals as goal
-use Rattle.caction.proofs.Refused.{handed_on, no_memory}
+use Rattle.caction.proofs.Refused.{handed_on}
 use Rattle.caction.specs.Make.{table}
 
 pub returns-in_err-condition : goal.returns-in_err-condition

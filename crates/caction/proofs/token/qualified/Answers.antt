@@ -1,5 +1,5 @@
 use Rattle.caction.proofs.token.qualified.Goals as goal
-use Rattle.caction.proofs.Refused.{handed_on, no_memory}
+use Rattle.caction.proofs.Refused.{handed_on}
 use Rattle.caction.specs.Make.{table}
 
 pub returns-in_err-qualifiers : goal.returns-in_err-qualifiers
