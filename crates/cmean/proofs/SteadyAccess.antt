@@ -12,7 +12,8 @@ use Rattle.cprogram.specs.Scalar.{scalar_width}
 use Rattle.cmean.specs.declared.undefined.UndefinedCause.TheVariants.{NullPointer, Misaligned, OutsideWindows}
 use Rattle.cmean.specs.Datum.{Datum, Number, Null, Plain, Address, received, written}
 use Rattle.cmean.specs.State.{Run}
-use Rattle.cmean.specs.Access.{Target, Pointed, OfRegister, within, leaf_of, set_leaf, in_window, reachable, register_place, load, send, store}
+use Rattle.memorymap.specs.Windows.{in_window}
+use Rattle.cmean.specs.Access.{Target, Pointed, OfRegister, within, leaf_of, set_leaf, reachable, register_place, load, send, store}
 use Rattle.cmean.proofs.Steady.{Steady, later-same, steady-give, steady-with, steady-do, steady-state, steady-change, steady-receive, steady-show, steady-undefined, steady-never, steady-given, steady-sure}
 
 pub steady-if : {A : Type 0} (x : Bool) {a b : Run A} → Steady a → Steady b → Steady (if x then a else b)

@@ -4,6 +4,7 @@ use Rattle.std.specs.Prelude.{ℕ, ◌%◌, ◌==◌, nat_lt, nat_le, Bool, ◌&
 use Rattle.prunum.specs.declared.width.Width.{Width}
 use Rattle.prunum.specs.declared.width.Width.TheVariants.{B4}
 use Rattle.prunum.specs.Width.{byte_count}
+use Rattle.memorymap.specs.Windows.{in_window}
 use Rattle.csyn.specs.declared.span.Span.{Span}
 use Rattle.prutrace.specs.declared.event.Event.TheVariants as event
 use Rattle.prutrace.specs.declared.event.Place.{Place}
@@ -41,17 +42,6 @@ abbrev pub set_leaf : Spot → Datum → State → State
 set_leaf p d s = with_leaves p.object (slice_set (leaves_of s p.object) p.leaf (Some d)) s
 
 -- ---- volatile places
-
--- The windows as a core sees them: the end of its own RAM, the end of the other core's, shared RAM, the interrupt controller, CFG, and
--- the memory outside. They are this project's own, within the memory map of the AM335x.
-abbrev pub in_window : ℕ → Bool
-in_window a =
-    nat_le 0x1E00 a && nat_lt a 0x2000
-    || nat_le 0x3E00 a && nat_lt a 0x4000
-    || nat_le 0x10000 a && nat_lt a 0x13000
-    || nat_le 0x20000 a && nat_lt a 0x22000
-    || nat_le 0x26000 a && nat_lt a 0x28000
-    || nat_le 0x80000 a && nat_lt a 0x90000
 
 -- the access is defined, or isn't
 abbrev pub reachable : {A : Type 0} → Span → Width → ℕ → Run A → Run A

@@ -16,9 +16,9 @@ use std::collections::LinkedList;
 fn first_as<P: FromValue>(alloc: Global, values: &mut LinkedList<Value>) -> Result<P, MakeFault>
     ensures { MatchResult result
         (λ x. (go_on : P → List Value → Option Value)
-            → specs.pick P.kind go_on (bare_values values.old) ≡ go_on (P.bare x) (bare_values values.new))
+        → specs.pick P.kind go_on (bare_values values.old) ≡ go_on (P.bare x) (bare_values values.new))
         (λ e. e ≡ fault.Parts → (go_on : P → List Value → Option Value)
-            → specs.pick P.kind go_on (bare_values values.old) ≡ None) }
+        → specs.pick P.kind go_on (bare_values values.old) ≡ None) }
 {
     match values.pop_front() {
         Some(value) => P::from_value(alloc, value),

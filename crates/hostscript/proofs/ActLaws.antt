@@ -20,7 +20,7 @@ use Rattle.hostscript.specs.declared.cause.ScriptCause.TheVariants.{Form, Range}
 use Rattle.hostscript.specs.declared.action.Action.{Action}
 use Rattle.hostscript.specs.declared.action.Action.TheVariants.{Poke, Pins, Event, Start}
 use Rattle.hostscript.specs.declared.action.Act.{Act}
-use Rattle.hostscript.specs.Acts.{in_window, IsPoke, IsAction, IsAct, action_fields, act_fields}
+use Rattle.hostscript.specs.Acts.{may_be_poked, IsPoke, IsAction, IsAct, action_fields, act_fields}
 use Rattle.hostscript.specs.Reading.{◌>>=◌, at_end, width_of, poke_of, poke_in, pins_in, event_in, start_in, action_in, act_in}
 
 pub bind_ok : {A B : Type 0} (r : Result A ScriptCause) (f : A → Result B ScriptCause) (y : B) → (r >>= f) ≡ Ok y → (x : A) × (r ≡ Ok x) × (f x ≡ Ok y)
@@ -62,13 +62,13 @@ poke_back : (addr n value : ℕ) (action : Action) → poke_of addr n value ≡ 
 poke_back addr n value action e = by (width_of n) refl e
   where
     by : (o : Option Width) → width_of n ≡ o
-        → option_and_then (λ w. cond (in_window addr && addr % byte_count w == 0 && nat_lt value (256 ^ byte_count w)) (Some (Poke addr w value)) None) o ≡ Some action
+        → option_and_then (λ w. cond (may_be_poked addr && addr % byte_count w == 0 && nat_lt value (256 ^ byte_count w)) (Some (Poke addr w value)) None) o ≡ Some action
         → (w : Width) × (n ≡ byte_count w) × IsPoke addr w value × (action ≡ Poke addr w value)
     by None is e = absurd (cc)
     by (Some w) is e =
-        let told = cond_some (in_window addr && addr % byte_count w == 0 && nat_lt value (256 ^ byte_count w)) (Poke addr w value) action e in
-        let outer = and_parts (in_window addr && addr % byte_count w == 0) _ told.0 in
-        let inner = and_parts (in_window addr) _ outer.0 in (
+        let told = cond_some (may_be_poked addr && addr % byte_count w == 0 && nat_lt value (256 ^ byte_count w)) (Poke addr w value) action e in
+        let outer = and_parts (may_be_poked addr && addr % byte_count w == 0) _ told.0 in
+        let inner = and_parts (may_be_poked addr) _ outer.0 in (
           w,
           width_back n w is,
           record { window = inner.0; aligned = eqb-true _ 0 inner.1; fits = ltb-true _ _ outer.1 },
@@ -77,15 +77,15 @@ poke_back addr n value action e = by (width_of n) refl e
 
 poke_there : (addr value : ℕ) (w : Width) → IsPoke addr w value → poke_of addr (byte_count w) value ≡ Some (Poke addr w value)
 poke_there addr value w h =
-    ap (option_and_then (λ w. cond (in_window addr && addr % byte_count w == 0 && nat_lt value (256 ^ byte_count w)) (Some (Poke addr w value)) None)) (width_of_count w)
-    ∙ ap (λ t. cond t (Some (Poke addr w value)) None) (and_from _ _ (and_from (in_window addr) _ h.window (eq-eqb _ 0 h.aligned)) (lt-ltb _ _ h.fits))
+    ap (option_and_then (λ w. cond (may_be_poked addr && addr % byte_count w == 0 && nat_lt value (256 ^ byte_count w)) (Some (Poke addr w value)) None)) (width_of_count w)
+    ∙ ap (λ t. cond t (Some (Poke addr w value)) None) (and_from _ _ (and_from (may_be_poked addr) _ h.window (eq-eqb _ 0 h.aligned)) (lt-ltb _ _ h.fits))
 
 pub count_small : (w : Width) → byte_count w ≤ 4
 count_small B1 = omega arith
 count_small B2 = omega arith
 count_small B4 = omega arith
 
-pub poke_small : (addr : ℕ) → in_window addr ≡ true → addr < 16 ^ 8
+pub poke_small : (addr : ℕ) → may_be_poked addr ≡ true → addr < 16 ^ 8
 poke_small addr h = grind (arith, nat_tests)
 
 pub value_small : (value : ℕ) (w : Width) → value < 256 ^ byte_count w → value < 16 ^ 8

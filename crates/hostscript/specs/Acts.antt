@@ -5,22 +5,20 @@ use Rattle.std.specs.List.Sorted.{IsNonDecreasingBy}
 use Rattle.std.specs.Fmt.{decimal}
 use Rattle.prunum.specs.declared.width.Width.{Width}
 use Rattle.prunum.specs.Width.{byte_count}
+use Rattle.memorymap.specs.Windows.{is_within, own_window, other_window, shared_window, outside_window}
 use Rattle.textline.specs.Numbers.{hex8, hex4}
 use Rattle.textline.specs.Lines.{line_of}
 use Rattle.hostscript.specs.declared.action.Action.{Action}
 use Rattle.hostscript.specs.declared.action.Action.TheVariants.{Poke, Pins, Event, Start}
 use Rattle.hostscript.specs.declared.action.Act.{Act}
 
--- The first and last addresses that a poke may write, as core 0 sees them: the volatile windows of its own data RAM and of core 1's,
--- the shared RAM, and the outside memory.
-abbrev pub windows : List (ℕ × ℕ)
-windows = (0x1E00, 0x1FFF) ∷ (0x3E00, 0x3FFF) ∷ (0x10000, 0x12FFF) ∷ (0x80000, 0x8FFFF) ∷ []
-
-abbrev pub in_window : ℕ → Bool
-in_window addr = list_any (λ window. nat_le window.0 addr && nat_le addr window.1) windows
+-- A poke may write, as core 0 sees them, the volatile windows of its own data RAM and of core 1's, the shared RAM, and the memory
+-- outside.
+abbrev pub may_be_poked : ℕ → Bool
+may_be_poked addr = list_any (is_within addr) (own_window ∷ other_window ∷ shared_window ∷ outside_window ∷ [])
 
 pub record IsPoke (addr : ℕ) (width : Width) (value : ℕ) : Type 0 where
-  pub window : IsTrue (in_window addr)
+  pub window : IsTrue (may_be_poked addr)
   pub aligned : addr % byte_count width ≡ 0
   pub fits : value < 256 ^ byte_count width
 

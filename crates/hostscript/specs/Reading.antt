@@ -17,7 +17,7 @@ use Rattle.hostscript.specs.declared.fault.LineFault.{LineFault}
 use Rattle.hostscript.specs.declared.fault.LineFault.TheVariants as faults
 use Rattle.hostscript.specs.declared.line.Saying.{Saying}
 use Rattle.hostscript.specs.declared.line.Saying.TheVariants.{Nothing, Does, Waits}
-use Rattle.hostscript.specs.Acts.{in_window}
+use Rattle.hostscript.specs.Acts.{may_be_poked}
 use Rattle.hostscript.specs.Forms.{is_skipped}
 
 infixl 10 ◌>>=◌
@@ -38,7 +38,7 @@ width_of n = if n == 1 then Some B1 else (if n == 2 then Some B2 else (if n == 4
 
 abbrev pub poke_of : ℕ → ℕ → ℕ → Option Action
 poke_of addr n value = option_and_then
-    (λ width. if in_window addr && addr % byte_count width == 0 && nat_lt value (256 ^ byte_count width) then Some (Poke addr width value) else None)
+    (λ width. if may_be_poked addr && addr % byte_count width == 0 && nat_lt value (256 ^ byte_count width) then Some (Poke addr width value) else None)
     (width_of n)
 
 unfoldable pub poke_in : List (List ℕ) → Result Action ScriptCause

@@ -1,7 +1,7 @@
 //! The fields of an act's line.
 
 ghost use Rattle.std.specs.Prelude.{◌≡◌, Ok};
-ghost use Rattle.hostscript.specs.Acts.{in_window};
+ghost use Rattle.hostscript.specs.Acts.{may_be_poked};
 ghost use Rattle.hostscript.specs.Reading.{at_end, width_of, poke_of, poke_in, pins_in, event_in, start_in, action_in, act_in};
 
 use crate::action::{Act, Action};
@@ -73,7 +73,7 @@ fn poke(addr: u32, width: Decimal, value: u32) -> Option<Action>
         Width::B2 => 0xffff,
         Width::B4 => u32::MAX,
     };
-    if is_in_window(addr) && addr % bytes(width) == 0 && value <= greatest {
+    if is_pokable(addr) && addr % bytes(width) == 0 && value <= greatest {
         Some(Action::Poke { addr, width, value })
     } else {
         None
@@ -91,8 +91,8 @@ fn to_width(number: Decimal) -> Option<Width>
     }
 }
 
-fn is_in_window(addr: u32) -> bool
-    ensures { result ≡ in_window addr }
+fn is_pokable(addr: u32) -> bool
+    ensures { result ≡ may_be_poked addr }
 {
     matches!(
         addr,

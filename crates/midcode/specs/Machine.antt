@@ -6,6 +6,7 @@ use Rattle.behaviour.specs.Ran.{Ran, Done, Stopped, and_then}
 use Rattle.prunum.specs.Bytes.{little_number}
 use Rattle.prunum.specs.Number.{wrap}
 use Rattle.prunum.specs.Width.{byte_count}
+use Rattle.memorymap.specs.Windows.{in_own_window, in_window}
 use Rattle.prunum.specs.declared.width.Width.{Width}
 use Rattle.prutrace.specs.declared.event.Event.{Event}
 use Rattle.prutrace.specs.declared.event.Event.TheVariants as event
@@ -150,18 +151,9 @@ read_from p w (v ∷ vs) s =
 abbrev pub read : Place → Width → Does ℕ
 read p w s = read_from p w s.values s
 
--- the windows of volatile accesses: in the own RAM, in the other core's, the shared RAM, the interrupt controller, CFG, outside memory
-abbrev pub is_own : ℕ → Bool
-is_own at = nat_le 0x1E00 at && nat_lt at 0x2000
-
-abbrev pub in_windows : ℕ → Bool
-in_windows at =
-    is_own at || ((nat_le 0x3E00 at && nat_lt at 0x4000) || ((nat_le 0x10000 at && nat_lt at 0x13000) ||
-    ((nat_le 0x20000 at && nat_lt at 0x22000) || ((nat_le 0x26000 at && nat_lt at 0x28000) || (nat_le 0x80000 at && nat_lt at 0x90000)))))
-
 -- a volatile access that is not wild
 abbrev pub allowed : Bool → Width → ℕ → Does (Unit {0})
 allowed own w at =
     in_turn (sure Misaligned (at % byte_count w == 0)) (λ _.
-    in_turn (sure OutsideWindows (in_windows at)) (λ _.
-    sure NotOwn (not own || is_own at)))
+    in_turn (sure OutsideWindows (in_window at)) (λ _.
+    sure NotOwn (not own || in_own_window at)))
