@@ -186,3 +186,6 @@ pub answer_ends : {A E : Type 0} (view : A → List Token) (tokens : List Token)
     → IfOk r (λ out. expansion tokens ≡ Ok (view out)) → EndsOnce tokens → IfOk r (λ out. EndsOnce (view out))
 answer_ends view tokens (Ok out) h once = subst Once h (ends_once tokens once)
 answer_ends view tokens (Err e) h once = tt
+
+pub expansion_ends : (tokens out : List Token) → expansion tokens ≡ Ok out → EndsOnce tokens → EndsOnce out
+expansion_ends tokens out e once = subst Once e (ends_once tokens once)

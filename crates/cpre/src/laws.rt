@@ -3,6 +3,7 @@ ghost use Rattle.csyn.specs.declared.cause.Cause.{Cause};
 ghost use Rattle.csyn.specs.declared.span.Span.{Span};
 ghost use Rattle.csyn.specs.declared.token.Token.{Token};
 ghost use Rattle.cpre.specs.Expansion.{Expands, IsFault};
+ghost use Rattle.cpre.specs.Line.{EndsOnce};
 
 /// A source is read in one way at most: it has one expansion, or one first fault, and not both.
 pub fn one_reading()
@@ -15,4 +16,9 @@ pub fn one_reading()
 pub fn expansion_or_fault()
     ensures { (tokens : List Token)
         → ((out : List Token) × Expands tokens out) ⊎ ((span : Span) × (cause : Cause) × IsFault tokens span cause) }
+{}
+
+/// The expansion of a source ends with the end token and has no other, where that holds of the source.
+pub fn expansion_ends()
+    ensures { (tokens out : List Token) → Expands tokens out → EndsOnce tokens → EndsOnce out }
 {}

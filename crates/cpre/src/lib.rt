@@ -13,7 +13,7 @@ mod source;
 mod state;
 mod table;
 
-pub use laws::{expansion_or_fault, one_reading};
+pub use laws::{expansion_ends, expansion_or_fault, one_reading};
 pub use source::expand;
 
 #[cfg(test)]

@@ -14,12 +14,14 @@ use Rattle.csyn.specs.declared.unit.UnitKind.TheVariants as kind
 use Rattle.csyn.specs.declared.unit.Units as units
 use Rattle.csyn.specs.Tree.{Contents}
 use Rattle.clex.specs.Text as text
+use Rattle.cpre.specs.Expansion as expansion
+use Rattle.cpre.specs.Line as line
 use Rattle.creader.specs.Source.{EndsOnce}
 use Rattle.cparse.specs.Parsed as parsed
 use Rattle.prucc.specs.Form.{IsLoadable, write_of, halts, is_end, is_main, IsMain, IsMainAlone, BodyWrites, IsProgram, body_departure, unit_departure, units_departure, departure}
-use Rattle.prucc.specs.Source.{first_hash, IsPlain, IsTreeOf, Writes, IsSourceFault, InTokens, InGrammar, IsUnbuilt, AtHash, InTree}
+use Rattle.prucc.specs.Source.{IsExpandedTo, IsTreeOf, Writes, IsSourceFault, InTokens, InExpansion, InGrammar, IsUnbuilt}
 use Rattle.prucc.proofs.BareForm.{same-program, same-departure}
-use Rattle.prucc.proofs.Tokens.{ends_once}
+use Rattle.prucc.proofs.Tokens.{written_ends, ends_once}
 use Rattle.prucc.proofs.TreeForm.{write_is, same_program, program_stays}
 
 -- ---- a tree that departs nowhere writes
@@ -118,63 +120,121 @@ abbrev Verdict : List ℕ → Type 0
 Verdict source = ((ks : List ℕ) × Writes source ks) ⊎ (Broken source ⊎ Unbuilt source)
 
 by-form : (source : List ℕ) (tree : Contents) → IsTreeOf tree source → (o : Option Span) → departure tree ≡ o → Verdict source
-by-form source tree of-source (Some span) e = inr (inr (span, InTree tree of-source e))
+by-form source tree of-source (Some span) e = inr (inr (span, record { tree = tree; of_source = of-source; departs = e }))
 by-form source tree of-source None e =
     let program = program-written tree e in
     inl (program.0, record { tree = tree; of_source = of-source; program = program.1 })
 
-by-grammar : (source : List ℕ) (tokens : List Token) → IsPlain source tokens
+by-grammar : (source : List ℕ) (tokens : List Token) → IsExpandedTo source tokens
     → ((tree : Contents) × parsed.Yields tree tokens) ⊎ ((span : Span) × (cause : Cause) × parsed.IsFault tokens span cause) → Verdict source
-by-grammar source tokens plain (inl read) =
-    by-form source read.0 (record { tokens = tokens; plain = plain; yields = read.1 }) (departure read.0) refl
-by-grammar source tokens plain (inr fault) = inr (inl (fault.0, fault.1, InGrammar tokens plain fault.2))
+by-grammar source tokens expanded (inl read) =
+    by-form source read.0 (record { tokens = tokens; expanded = expanded; yields = read.1 }) (departure read.0) refl
+by-grammar source tokens expanded (inr fault) = inr (inl (fault.0, fault.1, InGrammar tokens expanded fault.2))
 
-module _ (tree_or_fault : (tokens : List Token) → EndsOnce tokens
+module _
+    (expansion_or_fault : (written : List Token)
+    → ((out : List Token) × expansion.Expands written out) ⊎ ((span : Span) × (cause : Cause) × expansion.IsFault written span cause))
+    (expansion_ends : (written out : List Token) → expansion.Expands written out → line.EndsOnce written → line.EndsOnce out)
+    (tree_or_fault : (tokens : List Token) → EndsOnce tokens
     → ((tree : Contents) × parsed.Yields tree tokens) ⊎ ((span : Span) × (cause : Cause) × parsed.IsFault tokens span cause)) where
-  by-hash : (source : List ℕ) (tokens : List Token) → text.Spells tokens source → (o : Option Span) → first_hash tokens ≡ o → Verdict source
-  by-hash source tokens spelled (Some span) e = inr (inr (span, AtHash tokens spelled e))
-  by-hash source tokens spelled None e =
-      by-grammar source tokens (record { spelled = spelled; no_hash = e }) (tree_or_fault tokens (ends_once tokens source spelled))
+  by-expansion : (source : List ℕ) (written : List Token) → text.Spells written source
+      → ((out : List Token) × expansion.Expands written out) ⊎ ((span : Span) × (cause : Cause) × expansion.IsFault written span cause)
+      → Verdict source
+  by-expansion source written spelled (inl out) =
+      by-grammar source out.0 (record { written = written; spelled = spelled; expands = out.1 })
+      (tree_or_fault out.0 (ends_once out.0 (expansion_ends written out.0 out.1 (written_ends written source spelled))))
+  by-expansion source written spelled (inr fault) = inr (inl (fault.0, fault.1, InExpansion written spelled fault.2))
 
   pub verdict : (source : List ℕ)
       → ((tokens : List Token) × text.Spells tokens source) ⊎ ((span : Span) × (cause : Cause) × text.IsFault source span cause) → Verdict source
-  verdict source (inl read) = by-hash source read.0 read.1 (first_hash read.0) refl
+  verdict source (inl read) = by-expansion source read.0 read.1 (expansion_or_fault read.0)
   verdict source (inr fault) = inr (inl (fault.0, fault.1, InTokens fault.2))
 
 -- ---- one of them only
 
--- the first `#` of one list of tokens
-same-hash : (ts us : List Token) (a b : Option Span) → ts ≡ us → first_hash ts ≡ a → first_hash us ≡ b → a ≡ b
-same-hash ts us a b same e f = sym e ∙ ap first_hash same ∙ f
+-- what is known of each of the three readings: one result, one fault, and not both
+abbrev OneList : Type 0
+OneList = (bytes : List ℕ) (ts us : List Token) → text.Spells ts bytes → text.Spells us bytes → ts ≡ us
 
-module _ (source : List ℕ)
-    (one_list : (ts us : List Token) → text.Spells ts source → text.Spells us source → ts ≡ us)
-    (one_fault : (s t : Span) (c d : Cause) → text.IsFault source s c → text.IsFault source t d → (s ≡ t) × (c ≡ d))
-    (not_both : (ts : List Token) (s : Span) (c : Cause) → text.Spells ts source → text.IsFault source s c → ⊥)
-    (one_tree : (tokens : List Token) (a b : Contents) → parsed.Yields a tokens → parsed.Yields b tokens → parsed.Same a b)
-    (one_break : (tokens : List Token) (s t : Span) (c d : Cause) → parsed.IsFault tokens s c → parsed.IsFault tokens t d → (s ≡ t) × (c ≡ d))
-    (tree_or_break : (tokens : List Token) (tree : Contents) (s : Span) (c : Cause) → parsed.IsFault tokens s c → parsed.Yields tree tokens → ⊥) where
+abbrev OneFault : Type 0
+OneFault = (bytes : List ℕ) (s t : Span) (c d : Cause) → text.IsFault bytes s c → text.IsFault bytes t d → (s ≡ t) × (c ≡ d)
+
+abbrev NoList : Type 0
+NoList = (bytes : List ℕ) (ts : List Token) (s : Span) (c : Cause) → text.Spells ts bytes → text.IsFault bytes s c → ⊥
+
+abbrev OneExpansion : Type 0
+OneExpansion = (ts us vs : List Token) → expansion.Expands ts us → expansion.Expands ts vs → us ≡ vs
+
+abbrev OneMisuse : Type 0
+OneMisuse = (ts : List Token) (s t : Span) (c d : Cause) → expansion.IsFault ts s c → expansion.IsFault ts t d → (s ≡ t) × (c ≡ d)
+
+abbrev NoExpansion : Type 0
+NoExpansion = (ts us : List Token) (s : Span) (c : Cause) → expansion.Expands ts us → expansion.IsFault ts s c → ⊥
+
+abbrev OneTree : Type 0
+OneTree = (ts : List Token) (a b : Contents) → parsed.Yields a ts → parsed.Yields b ts → parsed.Same a b
+
+abbrev OneBreak : Type 0
+OneBreak = (ts : List Token) (s t : Span) (c d : Cause) → parsed.IsFault ts s c → parsed.IsFault ts t d → (s ≡ t) × (c ≡ d)
+
+abbrev NoTree : Type 0
+NoTree = (ts : List Token) (tree : Contents) (s : Span) (c : Cause) → parsed.IsFault ts s c → parsed.Yields tree ts → ⊥
+
+pub record IsOnce (source : List ℕ) : Type 0 where
+  pub one_list : (ts us : List Token) → text.Spells ts source → text.Spells us source → ts ≡ us
+  pub one_fault : (s t : Span) (c d : Cause) → text.IsFault source s c → text.IsFault source t d → (s ≡ t) × (c ≡ d)
+  pub no_list : (ts : List Token) (s : Span) (c : Cause) → text.Spells ts source → text.IsFault source s c → ⊥
+  pub one_expansion : OneExpansion
+  pub one_misuse : OneMisuse
+  pub no_expansion : NoExpansion
+  pub one_tree : OneTree
+  pub one_break : OneBreak
+  pub no_tree : NoTree
+
+pub once : (source : List ℕ) → OneList → OneFault → NoList → OneExpansion → OneMisuse → NoExpansion → OneTree → OneBreak → NoTree → IsOnce source
+once source a b c d e f g h i =
+    record {
+      one_list = a source;
+      one_fault = b source;
+      no_list = c source;
+      one_expansion = d;
+      one_misuse = e;
+      no_expansion = f;
+      one_tree = g;
+      one_break = h;
+      no_tree = i;
+    }
+
+module _ (source : List ℕ) (only : IsOnce source) where
+  same-tokens : (ts us : List Token) → IsExpandedTo source ts → IsExpandedTo source us → ts ≡ us
+  same-tokens ts us first second =
+      let written = only.one_list first.written second.written first.spelled second.spelled in
+      only.one_expansion second.written ts us (subst (λ ws. expansion.Expands ws ts) written first.expands) second.expands
+
+  unexpanded : (ts written : List Token) (s : Span) (c : Cause) → IsExpandedTo source ts → text.Spells written source → expansion.IsFault written s c → ⊥
+  unexpanded ts written s c expanded spelled fault =
+      let same = only.one_list expanded.written written expanded.spelled spelled in
+      only.no_expansion written ts s c (subst (λ ws. expansion.Expands ws ts) same expanded.expands) fault
+
   -- a source has one tree, boxes aside
   same-tree : (a b : Contents) → IsTreeOf a source → IsTreeOf b source → parsed.Same a b
   same-tree a b first second =
-      let same = one_list first.tokens second.tokens first.plain.spelled second.plain.spelled in
-      one_tree second.tokens a b (subst (λ ts. parsed.Yields a ts) same first.yields) second.yields
+      let same = same-tokens first.tokens second.tokens first.expanded second.expanded in
+      only.one_tree second.tokens a b (subst (λ ts. parsed.Yields a ts) same first.yields) second.yields
 
   same-place : (a b : Contents) → IsTreeOf a source → IsTreeOf b source → departure a ≡ departure b
   same-place a b first second =
       let same = same-tree a b first second in
       ap (λ end. units_departure end a.units) same.end ∙ same-departure b.end a.units b.units same.units
 
-  -- a tree of the source and a `#` in it, or a fault
-  no-hash : (tokens : List Token) (span : Span) (us : List Token) → IsPlain source tokens → text.Spells us source → first_hash us ≡ Some span → ⊥
-  no-hash tokens span us plain spelled e =
-      let none = same-hash us tokens (Some span) None (one_list us tokens spelled plain.spelled) e plain.no_hash in cc
-
   tree-unbroken : (tree : Contents) (span : Span) (cause : Cause) → IsTreeOf tree source → IsSourceFault source span cause → ⊥
-  tree-unbroken tree span cause of-source (InTokens fault) = not_both of-source.tokens span cause of-source.plain.spelled fault
-  tree-unbroken tree span cause of-source (InGrammar tokens plain fault) =
-      let same = one_list of-source.tokens tokens of-source.plain.spelled plain.spelled in
-      tree_or_break tokens tree span cause fault (subst (λ ts. parsed.Yields tree ts) same of-source.yields)
+  tree-unbroken tree span cause of-source (InTokens fault) =
+      only.no_list of-source.expanded.written span cause of-source.expanded.spelled fault
+  tree-unbroken tree span cause of-source (InExpansion written spelled fault) =
+      unexpanded of-source.tokens written span cause of-source.expanded spelled fault
+  tree-unbroken tree span cause of-source (InGrammar tokens expanded fault) =
+      let same = same-tokens of-source.tokens tokens of-source.expanded expanded in
+      only.no_tree tokens tree span cause fault (subst (λ ts. parsed.Yields tree ts) same of-source.yields)
 
   pub one-writes : (ks ls : List ℕ) → Writes source ks → Writes source ls → ks ≡ ls
   one-writes ks ls first second =
@@ -182,29 +242,28 @@ module _ (source : List ℕ)
       (same-program first.tree.units second.tree.units ks (same-tree first.tree second.tree first.of_source second.of_source).units first.program) second.program
 
   pub one-fault : (s t : Span) (c d : Cause) → IsSourceFault source s c → IsSourceFault source t d → (s ≡ t) × (c ≡ d)
-  one-fault s t c d (InTokens a) (InTokens b) = one_fault s t c d a b
-  one-fault s t c d (InTokens a) (InGrammar tokens plain b) = absurd (not_both tokens s c plain.spelled a)
-  one-fault s t c d (InGrammar tokens plain a) (InTokens b) = absurd (not_both tokens t d plain.spelled b)
+  one-fault s t c d (InTokens a) (InTokens b) = only.one_fault s t c d a b
+  one-fault s t c d (InTokens a) (InExpansion written spelled b) = absurd (only.no_list written s c spelled a)
+  one-fault s t c d (InTokens a) (InGrammar tokens expanded b) = absurd (only.no_list expanded.written s c expanded.spelled a)
+  one-fault s t c d (InExpansion written spelled a) (InTokens b) = absurd (only.no_list written t d spelled b)
+  one-fault s t c d (InExpansion ts first a) (InExpansion us second b) =
+      only.one_misuse us s t c d (subst (λ xs. expansion.IsFault xs s c) (only.one_list ts us first second) a) b
+  one-fault s t c d (InExpansion written spelled a) (InGrammar tokens expanded b) = absurd (unexpanded tokens written s c expanded spelled a)
+  one-fault s t c d (InGrammar tokens expanded a) (InTokens b) = absurd (only.no_list expanded.written t d expanded.spelled b)
+  one-fault s t c d (InGrammar tokens expanded a) (InExpansion written spelled b) = absurd (unexpanded tokens written t d expanded spelled b)
   one-fault s t c d (InGrammar ts first a) (InGrammar us second b) =
-      one_break us s t c d (subst (λ xs. parsed.IsFault xs s c) (one_list ts us first.spelled second.spelled) a) b
+      only.one_break us s t c d (subst (λ xs. parsed.IsFault xs s c) (same-tokens ts us first second) a) b
 
   pub one-place : (s t : Span) → IsUnbuilt source s → IsUnbuilt source t → s ≡ t
-  one-place s t (AtHash ts first a) (AtHash us second b) =
-      let same = same-hash ts us (Some s) (Some t) (one_list ts us first second) a b in cc
-  one-place s t (AtHash ts first a) (InTree tree of-source b) = absurd (no-hash of-source.tokens s ts of-source.plain first a)
-  one-place s t (InTree tree of-source a) (AtHash us second b) = absurd (no-hash of-source.tokens t us of-source.plain second b)
-  one-place s t (InTree x first a) (InTree y second b) =
-      let same : Some s ≡ Some t = sym a ∙ same-place x y first second ∙ b in cc
+  one-place s t first second =
+      let same : Some s ≡ Some t = sym first.departs ∙ same-place first.tree second.tree first.of_source second.of_source ∙ second.departs in cc
 
   pub writes-unbroken : (ks : List ℕ) (s : Span) (c : Cause) → Writes source ks → IsSourceFault source s c → ⊥
   writes-unbroken ks s c writes fault = tree-unbroken writes.tree s c writes.of_source fault
 
   pub writes-built : (ks : List ℕ) (s : Span) → Writes source ks → IsUnbuilt source s → ⊥
-  writes-built ks s writes (AtHash ts spelled e) = no-hash writes.of_source.tokens s ts writes.of_source.plain spelled e
-  writes-built ks s writes (InTree tree of-source e) =
-      let none = sym e ∙ same-place tree writes.tree of-source writes.of_source ∙ program_stays writes.tree ks writes.program in cc
+  writes-built ks s writes unbuilt =
+      let none = sym unbuilt.departs ∙ same-place unbuilt.tree writes.tree unbuilt.of_source writes.of_source ∙ program_stays writes.tree ks writes.program in cc
 
   pub broken-built : (s t : Span) (c : Cause) → IsSourceFault source s c → IsUnbuilt source t → ⊥
-  broken-built s t c (InTokens fault) (AtHash ts spelled e) = not_both ts s c spelled fault
-  broken-built s t c (InGrammar tokens plain fault) (AtHash ts spelled e) = no-hash tokens t ts plain spelled e
-  broken-built s t c fault (InTree tree of-source e) = tree-unbroken tree s c of-source fault
+  broken-built s t c fault unbuilt = tree-unbroken unbuilt.tree s c unbuilt.of_source fault

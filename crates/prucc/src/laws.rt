@@ -20,6 +20,9 @@ pub fn one_verdict()
 {
     clex::tokens_or_fault();
     clex::one_reading();
+    cpre::expansion_or_fault();
+    cpre::expansion_ends();
+    cpre::one_reading();
     cparse::tree_or_fault();
     cparse::one_reading();
 }

@@ -1,13 +1,14 @@
 //! From the bytes of a source to what it writes.
 
 ghost use Rattle.std.specs.Prelude.{◌≡◌, ◌≤◌, length, IfOk, IfErr};
-ghost use Rattle.prucc.specs.Source.{first_hash, is_hash, Writes};
+ghost use Rattle.prucc.specs.Source.{IsTreeOf, IsFaultOf, Writes};
 ghost use Rattle.prucc.specs.SourceAnswer.{refusal_of, refusal_at, Refuses};
 
 use crate::form::{FormFault, writes_of};
 use clex::tokens;
 use cparse::parse;
-use csyn::{Cause, Punctuator, SourceFault, Span, Token, TokenKind};
+use cpre::expand;
+use csyn::{Cause, SourceFault, Span, Tree};
 use std::alloc::Global;
 
 /// The most bytes of a source.
@@ -45,36 +46,25 @@ impl From<FormFault> for SourceRefusal {
     }
 }
 
-fn is_hash(kind: &TokenKind) -> bool
-    ensures { result ≡ is_hash kind.now }
+/// The tree of a source; or the first rule that it breaks, and where.
+#[tactic(auto, using(crate::proofs::SourceParts::tokens_broken, crate::proofs::SourceParts::expansion_broken, crate::proofs::SourceParts::grammar_broken, crate::proofs::Tokens::written_ends, crate::proofs::Tokens::ends_once))]
+pub fn read_tree(alloc: Global, bytes: &[u8]) -> Result<Tree, SourceFault>
+    requires { length bytes.now ≤ MAX_SOURCE }
+    ensures tree { IfOk result (λ tree. IsTreeOf tree bytes.now) }
+    ensures broken { IfErr result (IsFaultOf bytes.now) }
 {
-    matches!(kind, TokenKind::Punctuator(Punctuator::Hash))
-}
-
-/// The place of the first `#`.
-fn first_hash(tokens: &[Token]) -> Option<Span>
-    ensures { result ≡ first_hash tokens.now }
-{
-    let mut left = tokens;
-    while let [token, behind @ ..] = left {
-        if is_hash(&token.kind) {
-            return Some(token.span);
-        }
-        left = behind;
-    }
-    None
+    let written = tokens(alloc, bytes)?;
+    let tokens = expand(alloc, &written)?;
+    parse(alloc, &tokens)
 }
 
 /// The constants that a source of the form writes.
+#[tactic(auto, using(crate::proofs::SourceParts::fault_refuses, crate::proofs::SourceParts::form_refuses))]
 pub fn read_source(alloc: Global, bytes: &[u8]) -> Result<Vec<u16>, SourceRefusal>
     requires { length bytes.now ≤ MAX_SOURCE }
     ensures writes { IfOk result (λ writes. Writes bytes.now writes.items) }
     ensures err { IfErr result (Refuses bytes.now) }
 {
-    let tokens = tokens(alloc, bytes)?;
-    if let Some(span) = first_hash(&tokens) {
-        return Err(SourceRefusal::NotBuilt(span));
-    }
-    let tree = parse(alloc, &tokens)?;
+    let tree = read_tree(alloc, bytes)?;
     Ok(writes_of(alloc, &tree)?)
 }

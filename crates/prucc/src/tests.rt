@@ -11,6 +11,10 @@ const FIVE: &str = "void main(void){ __R30 = 5; __halt(); }";
 const SPREAD: &str =
     "/* the first pin\n   and the third */\nvoid main(void)\n{\n\t__R30 = 5; // 0x5\n\t__halt();\n}\n";
 
+const MACROS: &str =
+    "#include <stdint.h>\n#define PINS 5\n#define NAME main\n#ifdef OTHER\nint x;\n#else\n\
+    void NAME(void){ __R30 = PINS; __halt(); }\n#endif\n";
+
 const BOTH_EVENTS: &str = "core 0\nW R30 4 00000005\nH\ncore 1\nW R30 4 00000005\nH\n";
 
 const BOTH_HALTED: &str =
@@ -123,10 +127,21 @@ fn runs_and_refusals(rt: HostRuntime) -> Result<(), Fail> {
         Case::run("void main(void){ } }", 1, "source 0 1:20 G1"),
         Case::run("void main(void){ goto x; }", 1, "source 0 1:18 G2"),
         Case::run("int", 1, "source 0 1:4 G1"),
-        // a directive is found before a fault of the grammar, and behind one of the tokens
-        Case::run("#define X 1", 16, "notbuilt A 1:1"),
-        Case::run("int\n #", 16, "notbuilt A 2:2"),
+        // directives and macros
+        Case {
+            events: Some(BOTH_EVENTS),
+            lines: BOTH_HALTED,
+            ..Case::run(MACROS, 0, "done")
+        },
+        Case::run("#define X 1", 16, "notbuilt A 1:12"),
+        Case::run("int\n #", 1, "source 0 2:2 P1"),
         Case::run("# 08", 1, "source 0 1:3 L4"),
+        Case::run("#define A 1\n#define A 2\n", 1, "source 0 2:1 P3"),
+        Case::run(
+            "#define X goto\nvoid main(void){ X x; }",
+            1,
+            "source 0 2:18 G2",
+        ),
         // trees of other forms
         Case::run("", 16, "notbuilt A 1:1"),
         Case::run("// nothing\n", 16, "notbuilt A 2:1"),
