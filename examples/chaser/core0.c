@@ -1,4 +1,8 @@
 /* One lit pin, from pin 0 up to pin 7. */
+#include <stdint.h>
+
+#define ALL_OFF 0
+
 void main(void)
 {
     __R30 = 0x01;
@@ -9,6 +13,6 @@ void main(void)
     __R30 = 0x20;
     __R30 = 0x40;
     __R30 = 0x80;
-    __R30 = 0; // all pins off
+    __R30 = ALL_OFF;
     __halt();
 }
