@@ -1,5 +1,5 @@
 -- The refusals of reading a source.
-use Rattle.std.proofs.Common.{◌≡◌, ℕ, List, sym, subst}
+use Rattle.std.proofs.Common.{ℕ, List, sym, subst}
 use Rattle.csyn.specs.declared.fault.SourceFault.{SourceFault}
 use Rattle.csyn.specs.declared.fault.SourceFault.TheVariants as source
 use Rattle.csyn.specs.declared.span.Span.{Span}

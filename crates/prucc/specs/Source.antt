@@ -1,5 +1,5 @@
 -- The tree of a source, what a source writes, the rule that it breaks, and where it isn't built yet.
-use Rattle.std.specs.Prelude.{◌≡◌, ℕ, List, Option, Some}
+use Rattle.std.specs.Prelude.{◌≡◌, ℕ, List, Some}
 use Rattle.csyn.specs.declared.cause.Cause.{Cause}
 use Rattle.csyn.specs.declared.fault.SourceFault.{SourceFault}
 use Rattle.csyn.specs.declared.fault.SourceFault.TheVariants.{Broken, Memory}

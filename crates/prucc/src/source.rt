@@ -47,7 +47,7 @@ impl From<FormFault> for SourceRefusal {
 }
 
 /// The tree of a source; or the first rule that it breaks, and where.
-#[tactic(auto, using(crate::proofs::SourceParts::tokens_broken, crate::proofs::SourceParts::expansion_broken, crate::proofs::SourceParts::grammar_broken, crate::proofs::Tokens::written_ends, crate::proofs::Tokens::ends_once))]
+#[tactic(auto, using(crate::proofs::SourceParts::tokens_broken, crate::proofs::SourceParts::expansion_broken))]
 pub fn read_tree(alloc: Global, bytes: &[u8]) -> Result<Tree, SourceFault>
     requires { length bytes.now ≤ MAX_SOURCE }
     ensures tree { IfOk result (λ tree. IsTreeOf tree bytes.now) }
@@ -55,7 +55,8 @@ pub fn read_tree(alloc: Global, bytes: &[u8]) -> Result<Tree, SourceFault>
 {
     let written = tokens(alloc, bytes)?;
     let tokens = expand(alloc, &written)?;
-    parse(alloc, &tokens)
+    let tree = parse(alloc, &tokens)?;
+    Ok(tree)
 }
 
 /// The constants that a source of the form writes.
