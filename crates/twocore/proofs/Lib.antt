@@ -1,0 +1,6 @@
+pub mod PutLemmas
+pub mod FillLemmas
+pub mod ControllerLemmas
+pub mod PadLemmas
+pub mod ActLemmas
+pub mod CycleLemmas

@@ -1,0 +1,5 @@
+pub mod Memory
+pub mod World
+pub mod Word
+pub mod Machine
+pub mod Views
