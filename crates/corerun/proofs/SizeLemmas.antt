@@ -181,44 +181,48 @@ two_marks one two a b =
 before_few : (notes : List Note) → length (marks_before notes) ≤ 2
 before_few notes = two_marks (λ v. events.Enter (v % 2 ^ 16)) events.DelayIn (value_of_kind Enter notes) (value_of_kind DelayIn notes)
 
+take_few : (n : ℕ) (xs : List ℕ) → length (take n xs) ≤ n
+take_few zero xs = omega arith
+take_few (suc n) [] = omega arith
+take_few (suc n) (x ∷ xs) = let ih = take_few n xs in omega arith
+
+words_size : (xs : List ℕ) → length (flat_map (little_bytes 4) xs) ≡ 4 * length xs
+words_size [] = omega arith
+words_size (x ∷ xs) = let ih = words_size xs in let four = little_size 4 x in omega arith
+
+words_bytes : (xs : List ℕ) → AreBytes (flat_map (little_bytes 4) xs)
+words_bytes [] = tt
+words_bytes (x ∷ xs) = all_append (λ b. b < 256) (little_bytes 4 x) (flat_map (little_bytes 4) xs) (little_are_bytes 4 x) (words_bytes xs)
+
+numbers_size : (registers : List ℕ) (r k : ℕ) → length (numbers_from registers r k) ≡ k
+numbers_size registers r zero = refl
+numbers_size registers r (suc k) = ap suc (numbers_size registers (r + 1) k)
+
 -- ---- an instruction
 
 pub record EffectFits (e : Effect) : Type 0 where
   pub registers : Sized 124 e.registers
   pub ram : Sized 0x1E00 e.ram
   pub stored : AreBytes e.stored
-  pub few : length e.events ≤ 32
 
 module _ (registers ram : List ℕ) (core : Sized 124 registers) (own : Sized 0x1E00 ram) where
-  writes_fits : (events : List Event) (d : Field) (n : ℕ) (goes : Goes) → length events ≤ 2
-      → EffectFits (writes registers ram events d n goes)
-  writes_fits events d n goes few = record {
-    registers = field_fits d n registers core;
-    ram = own;
-    stored = tt;
-    few = omega (arith, length-append events (field_writes d n registers), writes_few d n registers);
-  }
+  writes_fits : (events : List Event) (d : Field) (n : ℕ) (goes : Goes) → EffectFits (writes registers ram events d n goes)
+  writes_fits events d n goes = record { registers = field_fits d n registers core; ram = own; stored = tt }
 
-  shows_fits : (after : List ℕ) (events : List Event) (goes : Goes) → Sized 124 after → length events ≤ 32
-      → EffectFits (shows after ram events goes)
-  shows_fits after events goes fits few = record { registers = fits; ram = own; stored = tt; few = few }
-
-  both_few : (x y : List Event) → length x ≤ 1 → length y ≤ 1 → length (x ++ y) ≤ 2
-  both_few x y left right = omega (arith, length-append x y)
+  shows_fits : (after : List ℕ) (events : List Event) (goes : Goes) → Sized 124 after → EffectFits (shows after ram events goes)
+  shows_fits after events goes fits = record { registers = fits; ram = own; stored = tt }
 
   loaded_by : (b : Bool) (addr len place : ℕ) (bytes : List ℕ) → is_private addr len ≡ b → place + len ≤ 124 → Sized len bytes
-      → len ≤ 120
       → EffectFits (cond b (shows (with_bytes place (bytes_at addr len ram) registers) ram [] Behind)
       (shows (with_bytes place bytes registers) ram (access_events false addr bytes) Behind))
-  loaded_by true addr len place bytes e h fits most =
+  loaded_by true addr len place bytes e h fits =
       let inside : addr + len ≤ 0x1E00 = le_is (addr + len) 0x1E00 e in
       let range : Sized len (bytes_at addr len ram) = range_fits 0x1E00 addr len ram inside own in
       let size : length (bytes_at addr len ram) ≡ len = range.size in
-      shows_fits _ [] Behind (with_fits 124 place (bytes_at addr len ram) registers (omega arith) range.all core) (omega arith)
-  loaded_by false addr len place bytes e h fits most =
+      shows_fits _ [] Behind (with_fits 124 place (bytes_at addr len ram) registers (omega arith) range.all core)
+  loaded_by false addr len place bytes e h fits =
       let size : length bytes ≡ len = fits.size in
       shows_fits _ (access_events false addr bytes) Behind (with_fits 124 place bytes registers (omega arith) fits.all core)
-      (omega (arith, pieces_few false addr bytes))
 
   ram_fits_by : (b : Bool) (addr : ℕ) (bytes : List ℕ) → nat_lt addr 0x1E00 ≡ b → AreBytes bytes
       → Sized 0x1E00 (cond b (with_bytes addr (take (0x1E00 - addr) bytes) ram) ram)
@@ -226,14 +230,9 @@ module _ (registers ram : List ℕ) (core : Sized 124 registers) (own : Sized 0x
       let inside : addr < 0x1E00 = lt_is addr 0x1E00 e in
       with_fits 0x1E00 addr (take (0x1E00 - addr) bytes) ram (omega (arith, take_few (0x1E00 - addr) bytes))
       (all_take (λ b. b < 256) (0x1E00 - addr) bytes all) own
-    where
-      take_few : (n : ℕ) (xs : List ℕ) → length (take n xs) ≤ n
-      take_few zero xs = omega arith
-      take_few (suc n) [] = omega arith
-      take_few (suc n) (x ∷ xs) = let ih = take_few n xs in omega arith
   ram_fits_by false addr bytes e all = own
 
-  stored_by : (b : Bool) (addr : ℕ) (bytes : List ℕ) → is_private addr (length bytes) ≡ b → AreBytes bytes → length bytes ≤ 120
+  stored_by : (b : Bool) (addr : ℕ) (bytes : List ℕ) → is_private addr (length bytes) ≡ b → AreBytes bytes
       → EffectFits (cond b (shows registers (with_bytes addr bytes ram) [] Behind)
       (record {
         registers = registers;
@@ -243,57 +242,34 @@ module _ (registers ram : List ℕ) (core : Sized 124 registers) (own : Sized 0x
         stored = bytes;
         goes = Behind;
       }))
-  stored_by true addr bytes e all most = record {
+  stored_by true addr bytes e all = record {
     registers = core;
     ram = with_fits 0x1E00 addr bytes ram (le_is (addr + length bytes) 0x1E00 e) all own;
     stored = tt;
-    few = omega arith;
   }
-  stored_by false addr bytes e all most = record {
-    registers = core;
-    ram = ram_fits_by (nat_lt addr 0x1E00) addr bytes refl all;
-    stored = all;
-    few = omega (arith, pieces_few true addr bytes);
-  }
-
-  words_size : (xs : List ℕ) → length (flat_map (little_bytes 4) xs) ≡ 4 * length xs
-  words_size [] = omega arith
-  words_size (x ∷ xs) = let ih = words_size xs in omega arith
-
-  words_bytes : (xs : List ℕ) → AreBytes (flat_map (little_bytes 4) xs)
-  words_bytes [] = tt
-  words_bytes (x ∷ xs) = all_append (λ b. b < 256) (little_bytes 4 x) (flat_map (little_bytes 4) xs) (little_are_bytes 4 x) (words_bytes xs)
-
-  numbers_size : (r k : ℕ) → length (numbers_from registers r k) ≡ k
-  numbers_size r zero = refl
-  numbers_size r (suc k) = ap suc (numbers_size (r + 1) k)
+  stored_by false addr bytes e all = record { registers = core; ram = ram_fits_by (nat_lt addr 0x1E00) addr bytes refl all; stored = all }
 
   module _ (behind : ℕ) (input : Input) (bytes_size : length input.bytes ≡ 124) (bytes : AreBytes input.bytes)
       (pads_size : length input.pads ≡ 4) where
     pub effect_fits : (i : Inst) → EffectFits (effect behind registers ram (given_by registers input i) i)
-    effect_fits (inst.Alu op d a b) =
-        writes_fits _ d _ Behind (both_few _ _ (reads_few _ a) (operand_few _ b))
-    effect_fits (inst.Not d a) = writes_fits _ d _ Behind (to_two (reads_few _ a))
-    effect_fits (inst.Jmp to) = shows_fits registers _ _ core (to_many (to_two (jump_few _ to)))
-    effect_fits (inst.Jal d to) = writes_fits _ d _ _ (to_two (jump_few _ to))
-    effect_fits (inst.Ldi d n) = writes_fits [] d n Behind (omega arith)
-    effect_fits (inst.Lmbd d a b) = writes_fits _ d _ Behind (both_few _ _ (reads_few _ a) (operand_few _ b))
-    effect_fits inst.Halt = shows_fits registers _ _ core (omega arith)
+    effect_fits (inst.Alu op d a b) = writes_fits _ d _ Behind
+    effect_fits (inst.Not d a) = writes_fits _ d _ Behind
+    effect_fits (inst.Jmp to) = shows_fits registers _ _ core
+    effect_fits (inst.Jal d to) = writes_fits _ d _ _
+    effect_fits (inst.Ldi d n) = writes_fits [] d n Behind
+    effect_fits (inst.Lmbd d a b) = writes_fits _ d _ Behind
+    effect_fits inst.Halt = shows_fits registers _ _ core
     effect_fits (inst.Xin t) =
         let pads : List ℕ = take t.count input.pads in
         let long : length pads ≡ t.count = length-take-le t.count input.pads (omega (arith, t.at_most)) in
         let words : List ℕ = flat_map (little_bytes 4) pads in
         shows_fits _ (pad_events false (bank_number t.bank) t.first pads) Behind
         (with_fits 124 (4 * t.first) words registers (omega (arith, words_size pads, t.below)) (words_bytes pads) core)
-        (omega (arith, length-pads false (bank_number t.bank) t.first pads, t.at_most))
     effect_fits (inst.Xout t) =
-        let values : List ℕ = numbers_from registers t.first t.count in
-        shows_fits registers (pad_events true (bank_number t.bank) t.first values) Behind core
-        (omega (arith, length-pads true (bank_number t.bank) t.first values, numbers_size t.first t.count, t.at_most))
-    effect_fits (inst.Loop body) = shows_fits registers [] _ core (omega arith)
-    effect_fits (inst.Branch condition offset a b) =
-        shows_fits registers _ _ core (to_many (both_few _ _ (reads_few _ a) (operand_few _ b)))
-    effect_fits (inst.Qba offset) = shows_fits registers [] _ core (omega arith)
+        shows_fits registers (pad_events true (bank_number t.bank) t.first (numbers_from registers t.first t.count)) Behind core
+    effect_fits (inst.Loop body) = shows_fits registers [] _ core
+    effect_fits (inst.Branch condition offset a b) = shows_fits registers _ _ core
+    effect_fits (inst.Qba offset) = shows_fits registers [] _ core
     effect_fits (inst.Load a) =
         let addr : ℕ = address_of registers a in
         let read : List ℕ = take a.len input.bytes in
@@ -302,14 +278,66 @@ module _ (registers ram : List ℕ) (core : Sized 124 registers) (own : Sized 0x
           size = length-take-le a.len input.bytes (omega (arith, a.below));
           all = all_take (λ b. b < 256) a.len input.bytes bytes;
         })
-        (omega (arith, a.below))
     effect_fits (inst.Store a) =
         let addr : ℕ = address_of registers a in
         let range : Sized a.len (bytes_at (access_place a) a.len registers) =
         range_fits 124 (access_place a) a.len registers (omega (arith, a.below)) core in
-        let size : length (bytes_at (access_place a) a.len registers) ≡ a.len = range.size in
-        stored_by (is_private addr (length (bytes_at (access_place a) a.len registers))) addr (bytes_at (access_place a) a.len registers) refl range.all
-        (omega (arith, a.below))
+        stored_by (is_private addr (length (bytes_at (access_place a) a.len registers))) addr (bytes_at (access_place a) a.len registers) refl
+        range.all
+
+-- ---- its events
+
+either_few : (b : Bool) (x y : Effect) → length x.events ≤ 32 → length y.events ≤ 32 → length (cond b x y).events ≤ 32
+either_few true x y left right = left
+either_few false x y left right = right
+
+access_few : (store : Bool) (addr n : ℕ) (bytes : List ℕ) → n ≤ 120 → length bytes ≤ n → length (access_events store addr bytes) ≤ 32
+access_few store addr n bytes h few = omega (arith, pieces_few store addr bytes)
+
+behind_reads : (reads : List Event) (d : Field) (n : ℕ) (registers : List ℕ) → length reads ≤ 2
+    → length (reads ++ field_writes d n registers) ≤ 32
+behind_reads reads d n registers few = omega (arith, length-append reads (field_writes d n registers), writes_few d n registers)
+
+both_few : (x y : List Event) → length x ≤ 1 → length y ≤ 1 → length (x ++ y) ≤ 2
+both_few x y left right = omega (arith, length-append x y)
+
+module _ (behind : ℕ) (registers ram : List ℕ) (input : Input) where
+  effect_few : (i : Inst) → length (effect behind registers ram (given_by registers input i) i).events ≤ 32
+  effect_few (inst.Alu op d a b) = behind_reads _ d _ registers (both_few _ _ (reads_few _ a) (operand_few _ b))
+  effect_few (inst.Not d a) = behind_reads _ d _ registers (to_two (reads_few _ a))
+  effect_few (inst.Jmp to) = to_many (to_two (jump_few _ to))
+  effect_few (inst.Jal d to) = behind_reads _ d _ registers (to_two (jump_few _ to))
+  effect_few (inst.Ldi d n) = behind_reads [] d n registers (omega arith)
+  effect_few (inst.Lmbd d a b) = behind_reads _ d _ registers (both_few _ _ (reads_few _ a) (operand_few _ b))
+  effect_few inst.Halt = omega arith
+  effect_few (inst.Xin t) =
+      let pads : List ℕ = take t.count input.pads in
+      omega (arith, length-pads false (bank_number t.bank) t.first pads, take_few t.count input.pads, t.at_most)
+  effect_few (inst.Xout t) =
+      let values : List ℕ = numbers_from registers t.first t.count in
+      omega (arith, length-pads true (bank_number t.bank) t.first values, numbers_size registers t.first t.count, t.at_most)
+  effect_few (inst.Loop body) = omega arith
+  effect_few (inst.Branch condition offset a b) = to_many (both_few _ _ (reads_few _ a) (operand_few _ b))
+  effect_few (inst.Qba offset) = omega arith
+  effect_few (inst.Load a) =
+      let addr : ℕ = address_of registers a in
+      let read : List ℕ = take a.len input.bytes in
+      either_few (is_private addr a.len) (shows (with_bytes (access_place a) (bytes_at addr a.len ram) registers) ram [] Behind)
+      (shows (with_bytes (access_place a) read registers) ram (access_events false addr read) Behind) (omega arith)
+      (access_few false addr a.len read (omega (arith, a.below)) (take_few a.len input.bytes))
+  effect_few (inst.Store a) =
+      let addr : ℕ = address_of registers a in
+      let bytes : List ℕ = bytes_at (access_place a) a.len registers in
+      either_few (is_private addr (length bytes)) (shows registers (with_bytes addr bytes ram) [] Behind)
+      (record {
+        registers = registers;
+        ram = ram_after ram addr bytes;
+        events = access_events true addr bytes;
+        at = addr;
+        stored = bytes;
+        goes = Behind;
+      })
+      (omega arith) (access_few true addr a.len bytes (omega (arith, a.below)) (take_few a.len (drop (access_place a) registers)))
 
 -- ---- a word
 
@@ -322,18 +350,14 @@ after_fits notes s i e fits = record {
     ram_bytes = fits.ram.all;
   };
   stored = fits.stored;
-  few =
-      let few : length e.events ≤ 32 = fits.few in
-      omega (arith, length-append (marks_before notes) (e.events ++ marks_behind notes), length-append e.events (marks_behind notes),
-      before_few notes, behind_few notes);
 }
-  where
-    behind_few : (all : List Note) → length (marks_behind all) ≤ 2
-    behind_few all = two_marks events.DelayOut (λ v. events.Leave (v % 2 ^ 16)) (value_of_kind DelayOut all) (value_of_kind Leave all)
+
+behind_few : (all : List Note) → length (marks_behind all) ≤ 2
+behind_few all = two_marks events.DelayOut (λ v. events.Leave (v % 2 ^ 16)) (value_of_kind DelayOut all) (value_of_kind Leave all)
 
 step_fits_by : (image : Contents) (s : State) (input : Input) (o : Option Inst) → CoreFits s → InputFits s.registers input
     → StepFits (step_by image.notes s (given_at s input o) o)
-step_fits_by image s input None core fits = record { core = core; stored = tt; few = omega arith }
+step_fits_by image s input None core fits = record { core = core; stored = tt }
 step_fits_by image s input (Some i) core fits =
     after_fits (notes_at image.notes s.pc) s i _
     (effect_fits s.registers s.ram (record { size = core.registers_size; all = core.registers_bytes })
@@ -343,3 +367,20 @@ pub step_fits : (image : Contents) (s : State) (input : Input) → CoreFits s �
     → StepFits (stepped image s input)
 unfolding istep
 step_fits image s input core fits = step_fits_by image s input (inst_at image.words s.pc) core fits
+
+after_few : (notes : List Note) (s : State) (i : Inst) (e : Effect) → length e.events ≤ 32
+    → length (after_effect notes s i e).out.events ≤ 36
+after_few notes s i e few =
+    omega (arith, length-append (marks_before notes) (e.events ++ marks_behind notes), length-append e.events (marks_behind notes),
+    before_few notes, behind_few notes)
+
+step_few_by : (image : Contents) (s : State) (input : Input) (o : Option Inst)
+    → length (step_by image.notes s (given_at s input o) o).out.events ≤ 36
+step_few_by image s input None = omega arith
+step_few_by image s input (Some i) =
+    after_few (notes_at image.notes s.pc) s i (effect (s.pc + 1) s.registers s.ram (given_by s.registers input i) i)
+    (effect_few (s.pc + 1) s.registers s.ram input i)
+
+pub step_few : (image : Contents) (s : State) (input : Input) → length (stepped image s input).out.events ≤ 36
+unfolding istep
+step_few image s input = step_few_by image s input (inst_at image.words s.pc)

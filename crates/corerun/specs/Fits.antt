@@ -1,5 +1,5 @@
 -- What the types of a core and of its input keep: how many bytes and numbers there are, and how great they are.
-use Rattle.std.specs.Prelude.{◌≡◌, ℕ, ◌^◌, ◌<◌, ◌≤◌, List, length}
+use Rattle.std.specs.Prelude.{◌≡◌, ℕ, ◌^◌, ◌<◌, List, length}
 use Rattle.std.specs.List.{AllByRecursion}
 use Rattle.corestep.specs.declared.out.Input.{Input}
 use Rattle.corestep.specs.Core.{State}
@@ -26,4 +26,3 @@ pub record CoreFits (s : State) : Type 0 where
 pub record StepFits (did : Stepped) : Type 0 where
   pub core : CoreFits did.core
   pub stored : AreBytes did.out.stored
-  pub few : length did.out.events ≤ 36

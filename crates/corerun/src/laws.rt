@@ -1,4 +1,4 @@
-ghost use Rattle.std.specs.Prelude.{◌≡◌, ◌≤◌, ◌++◌, ℕ, List, Some, false};
+ghost use Rattle.std.specs.Prelude.{◌≡◌, ◌≤◌, ◌++◌, ℕ, List, length, Some, false};
 ghost use Rattle.isa.specs.declared.inst.Inst.{Inst};
 ghost use Rattle.isa.specs.Image.{Contents};
 ghost use Rattle.behaviour.specs.Ran.{Done, goes_on};
@@ -36,8 +36,9 @@ pub fn alone_laws()
         → solo image values m ≡ solo image values n }
 {}
 
-/// A word keeps the sizes and ranges of what its core holds, stores bytes, and shows at most 36 events.
+/// A word keeps the sizes and ranges of what its core holds, and stores bytes. It shows at most 36 events.
 pub fn size_laws()
-    ensures { (image : Contents) (s : State) (input : Input) → CoreFits s → InputFits s.registers input
+    ensures keeps { (image : Contents) (s : State) (input : Input) → CoreFits s → InputFits s.registers input
         → StepFits (stepped image s input) }
+    ensures few { (image : Contents) (s : State) (input : Input) → length (stepped image s input).out.events ≤ 36 }
 {}

@@ -4,3 +4,5 @@ pub mod ControllerLemmas
 pub mod PadLemmas
 pub mod ActLemmas
 pub mod CycleLemmas
+pub mod KeepLemmas
+pub mod SteadyLemmas

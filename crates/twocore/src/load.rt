@@ -2,13 +2,13 @@
 
 ghost use Rattle.std.specs.Prelude.{◌≡◌, ◌+◌, ◌*◌, ◌/◌, ◌%◌, ◌^◌, ◌<◌, ◌≤◌, [], map, length};
 ghost use Rattle.std.specs.List.{range_with_len};
-ghost use Rattle.corestep.specs.Fields.{with_bytes};
 ghost use Rattle.corestep.specs.Pieces as pieces;
 ghost use Rattle.twocore.specs.World as spec;
 ghost use Rattle.twocore.specs.Word as word;
 ghost use Rattle.isa.specs.declared.inst.Inst.TheVariants as Inst;
 ghost use Rattle.twocore.specs.declared.side.Side.{Side};
 
+use crate::ram::write;
 use crate::side::{Side, ram_byte};
 use crate::spot::Spot;
 use crate::world::World;
@@ -57,13 +57,6 @@ fn memory_bytes(own: &Side, other: &Side, world: &World, spot: Spot, len: u8) ->
     bytes
 }
 
-fn put(list: &mut [u8], at: usize, bytes: &[u8])
-    requires { at + length bytes.now ≤ length list.old }
-    ensures { list.new ≡ with_bytes at bytes.now list.old }
-{
-    list[at..at + bytes.len()].copy_from_slice(bytes);
-}
-
 /// Bytes of the interrupt controller: only pieces of four count.
 fn controller_bytes(intc: &Intc, at: u16, len: u8) -> [u8; 124]
     requires { len ≤ 124 }
@@ -72,7 +65,7 @@ fn controller_bytes(intc: &Intc, at: u16, len: u8) -> [u8; 124]
     let mut bytes = no_bytes();
     for k in 0..len / 4 {
         let value = intc.read(u32::from(at) + 4 * u32::from(k), Width::B4);
-        put(&mut bytes, 4 * usize::from(k), &value.to_le_bytes());
+        write(&mut bytes, 4 * usize::from(k), &value.to_le_bytes());
     }
     bytes
 }

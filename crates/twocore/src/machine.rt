@@ -1,6 +1,7 @@
 //! The machine: cycle by cycle, with room for what shows.
 
 ghost use Rattle.std.specs.Prelude.{◌≡◌, ◌+◌, ◌-◌, ◌*◌, ◌<◌, ◌≤◌, IfOk, OnOk, length};
+ghost use Rattle.std.specs.List.{list_any};
 ghost use Rattle.twocore.specs.Machine as spec;
 ghost use Rattle.twocore.specs.Views as views;
 
@@ -71,7 +72,13 @@ impl Model for Machine {
 fn starts_at_once(core: u8, acts: &[Act]) -> bool
     ensures { result ≡ spec.starts_at_once core acts.now }
 {
-    !acts.iter().any(|a| is_start(core, &a.action))
+    !has_start(core, acts)
+}
+
+fn has_start(core: u8, acts: &[Act]) -> bool
+    ensures { result ≡ list_any (λ a. spec.is_start core a.action) acts.now }
+{
+    acts.iter().any(|a| is_start(core, &a.action))
 }
 
 fn is_start(core: u8, action: &Action) -> bool

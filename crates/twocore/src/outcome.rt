@@ -3,9 +3,10 @@
 ghost use Rattle.std.specs.Prelude.{◌≡◌, [], map};
 ghost use Rattle.std.specs.List.{range_with_len};
 ghost use Rattle.corestep.specs.Fields.{register};
+ghost use Rattle.twocore.specs.Views as views;
 ghost use Rattle.twocore.specs.Word.{filled};
 
-use crate::side::Side;
+use crate::side::{Side, Word};
 use corestep::{Core, Stop};
 use prutrace::Stamped;
 use std::marker::Model;
@@ -74,18 +75,25 @@ pub struct View {
 }
 
 impl View {
-    ghost use Rattle.twocore.specs.Views as views;
-
     pub fn of(side: &Side, events: usize) -> View
         ensures { result ≡ views.view_as side.now events }
     {
         View {
             pc: side.core.pc(),
-            between: side.word.is_none(),
+            between: is_between(side.word),
             stop: side.stop,
             regs: registers(&side.core),
             events,
         }
+    }
+}
+
+fn is_between(word: Option<Word>) -> bool
+    ensures { result ≡ views.is_between word }
+{
+    match word {
+        None => true,
+        Some(_) => false,
     }
 }
 

@@ -1,7 +1,8 @@
 //! Memories.
 
-ghost use Rattle.std.specs.Prelude.{◌≡◌, IfOk, length, slice_index};
+ghost use Rattle.std.specs.Prelude.{◌≡◌, ◌+◌, ◌≤◌, IfOk, length, slice_index, take};
 ghost use Rattle.corestep.specs.Core.{zeros};
+ghost use Rattle.corestep.specs.Fields.{with_bytes};
 ghost use Rattle.twocore.specs.Memory as spec;
 
 use prunum::Memory;
@@ -22,19 +23,26 @@ impl Model for Ram {
     ghost view = { λ a. a.bytes.items };
 }
 
+/// Writes bytes from a place on, where there is room for them.
+pub fn write(list: &mut [u8], at: usize, bytes: &[u8])
+    requires { at + length bytes.now ≤ length list.old }
+    ensures { list.new ≡ with_bytes at bytes.now list.old }
+{
+    list[at..at + bytes.len()].copy_from_slice(bytes);
+}
+
 /// Writes bytes from a place on. Those that run out of the memory are lost.
-#[tactic(auto, using(crate::proofs::PutLemmas::put_is))]
 fn put(memory: &mut [u8], at: usize, bytes: &[u8])
     ensures { memory.new ≡ spec.put memory.old at bytes.now }
 {
     if at < memory.len() {
-        let kept = front(bytes, memory.len() - at);
-        memory[at..at + kept.len()].copy_from_slice(kept);
+        let room = memory.len() - at;
+        write(memory, at, front(bytes, room));
     }
 }
 
 /// At most so many bytes.
-fn front(bytes: &[u8], most: usize) -> &[u8]
+pub fn front(bytes: &[u8], most: usize) -> &[u8]
     ensures value { result.now ≡ take most bytes.now }
     ensures few { length result.now ≤ most }
 {

@@ -7,7 +7,7 @@ ghost use Rattle.twocore.specs.Memory as memory;
 ghost use Rattle.twocore.specs.World as spec;
 
 use crate::load::bank_number;
-use crate::ram::Ram;
+use crate::ram::{Ram, front};
 use crate::side::Side;
 use crate::spot::Spot;
 use crate::world::World;
@@ -51,10 +51,8 @@ fn put_private(core: &mut Core, at: u16, bytes: &[u8])
     ensures { core.new ≡ record core.old { ram = memory.put core.old.ram at (take (0x1E00 - at) bytes.now) } }
 {
     let room = WINDOW.saturating_sub(usize::from(at));
-    if bytes.len() <= room {
-        put_below(core, at, bytes);
-    } else if 0 < room {
-        put_below(core, at, &bytes[..room]);
+    if 0 < room {
+        put_below(core, at, front(bytes, room));
     }
 }
 
