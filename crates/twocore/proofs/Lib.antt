@@ -6,3 +6,7 @@ pub mod ActLemmas
 pub mod CycleLemmas
 pub mod KeepLemmas
 pub mod SteadyLemmas
+pub mod RangeLemmas
+pub mod StageLemmas
+pub mod AloneLemmas
+pub mod AloneRuns

@@ -59,7 +59,7 @@ pub record StageFits (s : Stage) : Type 0 where
 -- ---- lists
 
 module _ {X : Type 0} (P : X → Type 0) where
-  all_set : (xs : List X) (i : ℕ) (v : X) → AllByRecursion P xs → P v → AllByRecursion P (slice_set xs i v)
+  pub all_set : (xs : List X) (i : ℕ) (v : X) → AllByRecursion P xs → P v → AllByRecursion P (slice_set xs i v)
   all_set [] i v all h = tt
   all_set (x ∷ xs) zero v all h = (h, all.1)
   all_set (x ∷ xs) (suc i) v all h = (all.0, all_set xs i v all.1 h)
@@ -186,12 +186,12 @@ pads_after_fits banks registers (inst.Store a) fits new = fits
 
 -- ---- what a word reads
 
-zeros_all : (P : ℕ → Type 0) (n : ℕ) → P 0 → AllByRecursion P (zeros n)
+pub zeros_all : (P : ℕ → Type 0) (n : ℕ) → P 0 → AllByRecursion P (zeros n)
 unfolding zeros
 zeros_all P zero h = tt
 zeros_all P (suc n) h = (h, zeros_all P n h)
 
-zeros_size : (n : ℕ) → length (zeros n) ≡ n
+pub zeros_size : (n : ℕ) → length (zeros n) ≡ n
 unfolding zeros
 zeros_size zero = refl
 zeros_size (suc n) = ap suc (zeros_size n)
@@ -240,5 +240,92 @@ in_bytes s (Shared at) len fits = mapped_all (λ v. v < 256) (byte_behind s (Sha
 in_bytes s (Outside at) len fits = mapped_all (λ v. v < 256) (byte_behind s (Outside at)) 0 len (λ k. behind_small s (Outside at) k fits)
 in_bytes s Nothing len fits = mapped_all (λ v. v < 256) (byte_behind s Nothing) 0 len (λ k. behind_small s Nothing k fits)
 
-in_few : (s : Stage) (spot : Spot) (len : ℕ) → len ≤ 124 → length (map (byte_behind s spot) (range_with_len 0 len)) ≤ 124
-in_few s spot len h = omega (arith, length-map-range_with_len (byte_behind s spot) 0 len)
+controller_size : (c : Pending) (at n : ℕ) → length (controller_bytes c at n) ≡ n
+controller_size c at zero = refl
+controller_size c at (suc zero) = refl
+controller_size c at (suc (suc zero)) = refl
+controller_size c at (suc (suc (suc zero))) = refl
+controller_size c at (suc (suc (suc (suc n)))) = ap (λ (k : ℕ). suc (suc (suc (suc k)))) (controller_size c ((at + 4) % 2 ^ 32) n)
+
+in_size : (s : Stage) (spot : Spot) (len : ℕ) → length (bytes_in s spot len) ≡ len
+in_size s (Controller at) len = controller_size s.world.intc at len
+in_size s (Own at) len = length-map-range_with_len (byte_behind s (Own at)) 0 len
+in_size s (Other at) len = length-map-range_with_len (byte_behind s (Other at)) 0 len
+in_size s (Shared at) len = length-map-range_with_len (byte_behind s (Shared at)) 0 len
+in_size s (Outside at) len = length-map-range_with_len (byte_behind s (Outside at)) 0 len
+in_size s Nothing len = length-map-range_with_len (byte_behind s Nothing) 0 len
+
+pub record Few (n : ℕ) (P : ℕ → Type 0) (xs : List ℕ) : Type 0 where
+  pub size : length xs ≤ n
+  pub all : AllByRecursion P xs
+
+few_of : (n : ℕ) (P : ℕ → Type 0) (b : Bool) (xs : List ℕ) → Few n P xs → Few n P (cond b [] xs)
+few_of n P true xs few = record { size = omega arith; all = tt }
+few_of n P false xs few = few
+
+none_few : (n : ℕ) (P : ℕ → Type 0) → Few n P []
+none_few n P = record { size = omega arith; all = tt }
+
+load_few : (s : Stage) (a : Access) → StageFits s → Few 124 (λ v. v < 256) (bytes_for s (inst.Load a))
+load_few s a fits =
+    let addr : ℕ = address_of s.own.core.registers a in
+    few_of 124 (λ v. v < 256) (is_private addr a.len) (bytes_in s (spot_of addr) a.len)
+    (record { size = omega (arith, in_size s (spot_of addr) a.len, a.below); all = in_bytes s (spot_of addr) a.len fits })
+
+bytes_few : (s : Stage) (i : Inst) → StageFits s → Few 124 (λ v. v < 256) (bytes_for s i)
+bytes_few s (inst.Load a) fits = load_few s a fits
+bytes_few s (inst.Alu op d a b) fits = none_few 124 (λ v. v < 256)
+bytes_few s (inst.Not d a) fits = none_few 124 (λ v. v < 256)
+bytes_few s (inst.Jmp to) fits = none_few 124 (λ v. v < 256)
+bytes_few s (inst.Jal d to) fits = none_few 124 (λ v. v < 256)
+bytes_few s (inst.Ldi d n) fits = none_few 124 (λ v. v < 256)
+bytes_few s (inst.Lmbd d a b) fits = none_few 124 (λ v. v < 256)
+bytes_few s inst.Halt fits = none_few 124 (λ v. v < 256)
+bytes_few s (inst.Xin t) fits = none_few 124 (λ v. v < 256)
+bytes_few s (inst.Xout t) fits = none_few 124 (λ v. v < 256)
+bytes_few s (inst.Loop body) fits = none_few 124 (λ v. v < 256)
+bytes_few s (inst.Branch condition offset a b) fits = none_few 124 (λ v. v < 256)
+bytes_few s (inst.Qba offset) fits = none_few 124 (λ v. v < 256)
+bytes_few s (inst.Store a) fits = none_few 124 (λ v. v < 256)
+
+pad_small : (banks : List (List ℕ)) (bank reg : ℕ) → AllByRecursion AreWords banks → pad_at banks bank reg < 2 ^ 32
+pad_small banks bank reg fits =
+    all_index (λ w. w < 2 ^ 32) (slice_index_or banks bank []) reg 0 (all_index AreWords banks bank [] fits tt) (omega arith)
+
+pads_few : (s : Stage) (i : Inst) → StageFits s → Few 4 (λ v. v < 2 ^ 32) (pads_for s i)
+pads_few s (inst.Xin t) fits = record {
+  size = omega (arith, length-map-range_with_len (pad_at s.world.pads (bank_number t.bank)) t.first t.count, t.at_most);
+  all = mapped_all (λ v. v < 2 ^ 32) (pad_at s.world.pads (bank_number t.bank)) t.first t.count
+      (λ k. pad_small s.world.pads (bank_number t.bank) k fits.world.pads);
+}
+pads_few s (inst.Alu op d a b) fits = none_few 4 (λ v. v < 2 ^ 32)
+pads_few s (inst.Not d a) fits = none_few 4 (λ v. v < 2 ^ 32)
+pads_few s (inst.Jmp to) fits = none_few 4 (λ v. v < 2 ^ 32)
+pads_few s (inst.Jal d to) fits = none_few 4 (λ v. v < 2 ^ 32)
+pads_few s (inst.Ldi d n) fits = none_few 4 (λ v. v < 2 ^ 32)
+pads_few s (inst.Lmbd d a b) fits = none_few 4 (λ v. v < 2 ^ 32)
+pads_few s inst.Halt fits = none_few 4 (λ v. v < 2 ^ 32)
+pads_few s (inst.Xout t) fits = none_few 4 (λ v. v < 2 ^ 32)
+pads_few s (inst.Loop body) fits = none_few 4 (λ v. v < 2 ^ 32)
+pads_few s (inst.Branch condition offset a b) fits = none_few 4 (λ v. v < 2 ^ 32)
+pads_few s (inst.Qba offset) fits = none_few 4 (λ v. v < 2 ^ 32)
+pads_few s (inst.Load a) fits = none_few 4 (λ v. v < 2 ^ 32)
+pads_few s (inst.Store a) fits = none_few 4 (λ v. v < 2 ^ 32)
+
+r31_small : (x h : ℕ) → x < 2 ^ 16 → x + h % 4 * 2 ^ 30 < 2 ^ 32
+r31_small x h small = let four : h % 4 < 4 = omega arith in omega arith
+
+pub input_fits : (core : ℕ) (s : Stage) (i : Inst) → StageFits s → InputFits s.own.core.registers (input_for core s i)
+input_fits core s i fits =
+    let bytes : Few 124 (λ v. v < 256) (bytes_for s i) = bytes_few s i fits in
+    let pads : Few 4 (λ v. v < 2 ^ 32) (pads_for s i) = pads_few s i fits in
+    record {
+      registers_size = fits.own.core.registers_size;
+      registers_bytes = fits.own.core.registers_bytes;
+      r31 = r31_small (slice_index s.world.pins.inputs core) (host_bits_of s.world.intc)
+          (all_index (λ v. v < 2 ^ 16) s.world.pins.inputs core 0 fits.world.inputs (omega arith));
+      bytes_size = filled_size 124 (bytes_for s i) bytes.size;
+      bytes = filled_all (λ v. v < 256) 124 (bytes_for s i) (omega arith) bytes.all;
+      pads_size = filled_size 4 (pads_for s i) pads.size;
+      pads = filled_all (λ v. v < 2 ^ 32) 4 (pads_for s i) (omega arith) pads.all;
+    }

@@ -2,13 +2,17 @@
 use Rattle.std.specs.Prelude.{◌≡◌, ℕ, ◌+◌, ◌<◌, List, ◌++◌, map, None}
 use Rattle.prutrace.specs.declared.event.Event.{Event}
 use Rattle.prutrace.specs.declared.event.Stamped.{Stamped}
-use Rattle.isa.specs.Image.{Contents}
+use Rattle.std.specs.List.{AllByRecursion}
+use Rattle.isa.specs.Image.{Contents, IsImage}
 use Rattle.behaviour.specs.Machine.{exec}
 use Rattle.corestep.specs.declared.out.Stop.{Stop}
 use Rattle.corestep.specs.declared.out.Stop.TheVariants.{Going, Halted, Stuck}
 use Rattle.corestep.specs.Step.{inst_at}
 use Rattle.corerun.specs.Solo.{Alone, solo, alone_step}
+use Rattle.corerun.specs.Fits.{AreBytes}
 use Rattle.corerun.specs.Values.{values_of}
+use Rattle.hostscript.specs.declared.script.Script.{Script}
+use Rattle.hostscript.specs.Acts.{IsAct}
 use Rattle.twocore.specs.declared.side.Side.{Side}
 use Rattle.twocore.specs.World.{Stage}
 use Rattle.twocore.specs.Word.{Turned, turned}
@@ -58,3 +62,11 @@ SparesOne m = (behind_zero m).other.core.ram ≡ (behind_acts m).other.core.ram
 -- and so in each of so many cycles
 abbrev pub InEach : (Machine → Type 0) → ℕ → Machine → Type 0
 InEach P n m = (k : ℕ) → k < n → P (cycles k m)
+
+-- images whose data are bytes, and a script whose acts are in their ranges
+pub record AreGiven (image0 image1 : Contents) (script : Script) : Type 0 where
+  pub image0_is : IsImage image0
+  pub image1_is : IsImage image1
+  pub bytes0 : AreBytes image0.init
+  pub bytes1 : AreBytes image1.init
+  pub acts : AllByRecursion IsAct script.acts

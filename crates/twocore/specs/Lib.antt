@@ -3,3 +3,4 @@ pub mod World
 pub mod Word
 pub mod Machine
 pub mod Views
+pub mod Alone

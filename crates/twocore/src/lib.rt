@@ -2,6 +2,7 @@
 #![tactic(auto)]
 
 mod acts;
+mod laws;
 mod load;
 mod machine;
 mod outcome;
@@ -15,5 +16,6 @@ mod tests;
 mod turn;
 mod world;
 
+pub use laws::{alone_laws, cycle_laws, own_laws};
 pub use machine::Machine;
 pub use outcome::{Outcome, Trace, View};
