@@ -10,3 +10,4 @@ pub mod RangeLemmas
 pub mod StageLemmas
 pub mod AloneLemmas
 pub mod AloneRuns
+pub mod StampLemmas

@@ -4,3 +4,4 @@ pub mod Word
 pub mod Machine
 pub mod Views
 pub mod Alone
+pub mod Stamps

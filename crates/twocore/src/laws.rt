@@ -9,7 +9,8 @@ ghost use Rattle.hostscript.specs.declared.script.Script.{Script};
 ghost use Rattle.twocore.specs.declared.setup.Setup.{Setup};
 ghost use Rattle.twocore.specs.declared.side.Side.{Side};
 ghost use Rattle.twocore.specs.Word.{access_at, waits, cycles_of};
-ghost use Rattle.twocore.specs.Machine.{Machine, cycles, at_start_of};
+ghost use Rattle.twocore.specs.Machine.{M, Machine, cycles, at_start_of};
+ghost use Rattle.twocore.specs.Stamps.{Ascends};
 ghost use Rattle.twocore.specs.Alone.{AreGiven, InEach, SparesZero, SparesOne, RunsAlone};
 
 /// Each core runs alone. After any number of cycles a core, with its registers, its LOOP, its private RAM, its count of instructions
@@ -30,6 +31,12 @@ pub fn alone_laws()
 pub fn own_laws()
     ensures { (setup : Setup) (side : Side) (i : Inst) → waits side.core i ≡ false
         → cycles_of setup side i ≡ cost setup.table i (access_at side.core i) 0 }
+{}
+
+/// The cycles of a trace don't fall, for every run.
+pub fn stamp_laws()
+    ensures { (table : Table) (image0 image1 : Contents) (script : Script) (n : ℕ)
+        → Ascends (M table image0 image1 script n).trace0 × Ascends (M table image0 image1 script n).trace1 }
 {}
 
 /// So many cycles, and then more, are all of them at once.
