@@ -4,3 +4,4 @@ pub mod ReadLemmas
 pub mod SourceLemmas
 pub mod FollowLemmas
 pub mod AloneFollows
+pub mod SizeLemmas

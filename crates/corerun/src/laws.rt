@@ -1,4 +1,4 @@
-ghost use Rattle.std.specs.Prelude.{◌≡◌, ◌≤◌, ◌++◌, ℕ, List, Some, false};
+ghost use Rattle.std.specs.Prelude.{◌≡◌, ◌≤◌, ◌++◌, ℕ, List, length, Some, false};
 ghost use Rattle.isa.specs.declared.inst.Inst.{Inst};
 ghost use Rattle.isa.specs.Image.{Contents};
 ghost use Rattle.behaviour.specs.Ran.{Done, goes_on};
@@ -8,7 +8,7 @@ ghost use Rattle.corestep.specs.Core.{State};
 ghost use Rattle.corestep.specs.Effect.{Given};
 ghost use Rattle.corestep.specs.Step.{istep, inst_at, stepped};
 ghost use Rattle.corerun.specs.Code.{code_step, code_of_words, IsNumbered};
-ghost use Rattle.corerun.specs.Fits.{InputFits};
+ghost use Rattle.corerun.specs.Fits.{CoreFits, InputFits, StepFits};
 ghost use Rattle.corerun.specs.Solo.{Alone, solo, alone_step, after_step};
 ghost use Rattle.corerun.specs.Values.{values_of};
 
@@ -34,4 +34,11 @@ pub fn follow_laws()
 pub fn alone_laws()
     ensures settled { (image : Contents) (values : List ℕ) (n m : ℕ) → n ≤ m → goes_on (solo image values n) ≡ false
         → solo image values m ≡ solo image values n }
+{}
+
+/// A word keeps the sizes and ranges of what its core holds, and stores bytes. It shows at most 36 events.
+pub fn size_laws()
+    ensures keeps { (image : Contents) (s : State) (input : Input) → CoreFits s → InputFits s.registers input
+        → StepFits (stepped image s input) }
+    ensures few { (image : Contents) (s : State) (input : Input) → length (stepped image s input).out.events ≤ 36 }
 {}

@@ -3,4 +3,4 @@
 
 mod laws;
 
-pub use laws::{alone_laws, follow_laws, word_laws};
+pub use laws::{alone_laws, follow_laws, size_laws, word_laws};

@@ -1,0 +1,26 @@
+-- So many cycles, and then more.
+use Rattle.std.proofs.Common.{◌≡◌, ℕ, zero, suc, ◌+◌, ◌-◌, ◌<◌, ◌≤◌, refl, sym, ap, ◌∙◌, arith}
+use Rattle.twocore.specs.Machine.{Machine, cycle, cycles}
+
+pub cycles_done : (n : ℕ) (m : Machine) → (cycles n m).done ≡ m.done + n
+cycles_done zero m = omega arith
+cycles_done (suc n) m = let ih = cycles_done n m in omega arith
+
+pub cycles_add : (a b : ℕ) (m : Machine) → cycles a (cycles b m) ≡ cycles (a + b) m
+cycles_add zero b m = ap (λ (n : ℕ). cycles n m) (let e : b ≡ 0 + b = omega arith in e)
+cycles_add (suc a) b m =
+    ap cycle (cycles_add a b m) ∙ ap (λ (n : ℕ). cycles n m) (let e : suc (a + b) ≡ suc a + b = omega arith in e)
+
+-- one more, where there are left
+pub cycle_turn : (n left : ℕ) (m now : Machine) → 0 < left → left ≤ n → now ≡ cycles (n - left) m
+    → cycle now ≡ cycles (n - (left - 1)) m
+cycle_turn n left m now some most is =
+    ap cycle is ∙ ap (λ (k : ℕ). cycles k m) (let e : suc (n - left) ≡ n - (left - 1) = omega arith in e)
+
+-- a stretch more
+pub stretch_turn : (n left stretch : ℕ) (m now after : Machine) → stretch ≤ left → left ≤ n → now ≡ cycles (n - left) m
+    → after ≡ cycles stretch now
+    → after ≡ cycles (n - (left - stretch)) m
+stretch_turn n left stretch m now after some most is did =
+    did ∙ ap (cycles stretch) is ∙ cycles_add stretch (n - left) m
+    ∙ ap (λ (k : ℕ). cycles k m) (let e : stretch + (n - left) ≡ n - (left - stretch) = omega arith in e)

@@ -1,0 +1,13 @@
+pub mod PutLemmas
+pub mod FillLemmas
+pub mod ControllerLemmas
+pub mod PadLemmas
+pub mod ActLemmas
+pub mod CycleLemmas
+pub mod KeepLemmas
+pub mod SteadyLemmas
+pub mod RangeLemmas
+pub mod StageLemmas
+pub mod AloneLemmas
+pub mod AloneRuns
+pub mod StampLemmas
