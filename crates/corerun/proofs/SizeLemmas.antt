@@ -371,8 +371,13 @@ step_fits image s input core fits = step_fits_by image s input (inst_at image.wo
 after_few : (notes : List Note) (s : State) (i : Inst) (e : Effect) → length e.events ≤ 32
     → length (after_effect notes s i e).out.events ≤ 36
 after_few notes s i e few =
-    omega (arith, length-append (marks_before notes) (e.events ++ marks_behind notes), length-append e.events (marks_behind notes),
-    before_few notes, behind_few notes)
+    omega (
+      arith,
+      length-append (marks_before notes) (e.events ++ marks_behind notes),
+      length-append e.events (marks_behind notes),
+      before_few notes,
+      behind_few notes,
+    )
 
 step_few_by : (image : Contents) (s : State) (input : Input) (o : Option Inst)
     → length (step_by image.notes s (given_at s input o) o).out.events ≤ 36

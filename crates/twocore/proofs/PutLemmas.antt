@@ -35,7 +35,7 @@ put_range memory at [] h =
     nothing (suc n) = refl
 put_range memory at (b ∷ bytes) h =
     elim (cases_lt (at + 1) (length memory)) [
-      inl more ↦
+      | inl more ↦
           let memory' : List ℕ = slice_set memory at b in
           let long : length memory' ≡ length memory = length-set memory at b in
           let rest : List ℕ = take (length memory' - (at + 1)) bytes in

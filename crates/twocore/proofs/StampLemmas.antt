@@ -81,10 +81,11 @@ at_ascends b (s ∷ trace) all =
 
 ascends_append : (b : ℕ) (xs ys : List Stamped) → Ascends xs → Ascends ys → To b xs → From b ys → Ascends (xs ++ ys)
 ascends_append b [] ys left right low high = right
-ascends_append b (x ∷ xs) ys left right low high =
-    (all_append (λ r. x.cycle ≤ r.cycle) xs ys left.0
-    (all_also (λ r. b ≤ r.cycle) (λ r. x.cycle ≤ r.cycle) ys (λ r h. let e = low.0 in omega arith) high),
-    ascends_append b xs ys left.1 right low.1 high)
+ascends_append b (x ∷ xs) ys left right low high = (
+  all_append (λ r. x.cycle ≤ r.cycle) xs ys left.0
+      (all_also (λ r. b ≤ r.cycle) (λ r. x.cycle ≤ r.cycle) ys (λ r h. let e = low.0 in omega arith) high),
+  ascends_append b xs ys left.1 right low.1 high,
+)
 
 -- ---- events of a word's own
 

@@ -25,14 +25,7 @@ pub fn acts_at(t: u32, acts: &[Act]) -> &[Act]
     here
 }
 
-fn poke(
-    own: &mut Side,
-    other: &mut Side,
-    world: &mut World,
-    addr: u32,
-    width: Width,
-    value: u32,
-)
+fn poke(own: &mut Side, other: &mut Side, world: &mut World, addr: u32, width: Width, value: u32)
     ensures { record { own = own.new; other = other.new; world = world.new }
         ≡ spec.acted (record { own = own.old; other = other.old; world = world.old }) (Action.Poke addr width value) }
 {

@@ -9,14 +9,23 @@ use std::test::Fail;
 
 // words by hand
 const LBCO_SHARED: u32 = 0x9100_1c62; // LBCO R2, C28, 0, 4
+
 const SBCO_SHARED: u32 = 0x8100_1c62; // SBCO R2, C28, 0, 4
+
 const ADD_ONE: u32 = 0x0101_e2e2; // ADD R2, R2, 1
+
 const READ_PINS: u32 = 0x0100_ffe2; // ADD R2, R31, 0
+
 const LOAD: u32 = 0xf100_0362; // LBBO R2, R3, 0, 4
+
 const HALT: u32 = 0x2a00_0000;
+
 const OWN_WINDOW: u32 = 0x241e_00e3; // LDI R3, 0x1e00
+
 const OTHER_WINDOW: u32 = 0x243e_00e3; // LDI R3, 0x3e00
+
 const OUTSIDE: u32 = 0x2400_08c3; // LDI R3.w2, 8
+
 const UPDATE: &[u32] = &[LBCO_SHARED, ADD_ONE, SBCO_SHARED, HALT];
 
 fn image<R: AllocGlobal + Abort>(rt: &R, words: &[u32]) -> Result<Image, Fail> {
@@ -115,7 +124,13 @@ fn one_core(rt: HostRuntime) -> Result<(), Fail> {
     let other: &[u32] = &[OTHER_WINDOW, LOAD, HALT];
     let outside: &[u32] = &[OUTSIDE, LOAD, HALT];
     for (table, words, text, shown, count) in [
-        (Table::One, turns, b"".as_slice(), [write(Place::Reg30, 4, 5), halted(6)], 7),
+        (
+            Table::One,
+            turns,
+            b"".as_slice(),
+            [write(Place::Reg30, 4, 5), halted(6)],
+            7,
+        ),
         (Table::One, store, b"", [write(SHARED, 0, 1), halted(2)], 2),
         (Table::Two, store, b"", [write(SHARED, 0, 2), halted(3)], 2),
         (
@@ -190,6 +205,9 @@ fn readers(rt: HostRuntime) -> Result<(), Fail> {
     machine.run(8)?;
     assert_eq!(rt; machine.done(), 10);
     assert_eq!(rt; machine.view(0).events, 2);
-    assert_eq!(rt; machine.trace(0), [read(Place::Addr(0x1e00), 42, 3), halted(4)].as_slice());
+    assert_eq!(rt;
+        machine.trace(0),
+        [read(Place::Addr(0x1e00), 42, 3), halted(4)].as_slice()
+    );
     Ok(())
 }
