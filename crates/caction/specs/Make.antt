@@ -53,7 +53,11 @@ use Rattle.cparts.specs.declared.value.ExternalRest.TheVariants as rest_of
 use Rattle.cparts.specs.declared.value.Value.{Value}
 use Rattle.cparts.specs.declared.value.Value.TheVariants as value
 use Rattle.cparts.specs.Value.{bare_value, bare_values}
-use Rattle.cparts.specs.Parts.{none, one, two, three, four, only, perhaps, boxed, text, expr, exprs, optional_expr, type_name, specifiers, base, words, qualifiers, pointers, declarator, declarators, member, members, init, optional_init, inits, init_declarator, init_declarators, object, stmt, optional_stmt, for_first, items, label, switch_items, external_rest, function_end, parameters, parameter, parameter_list, unit, units, register_type}
+use Rattle.cparts.specs.Parts.{none, one, two, three, four, only, perhaps, boxed, text, expr, exprs, optional_expr, type_name}
+use Rattle.cparts.specs.Parts.{specifiers, base, words, qualifiers, pointers, declarator, declarators, member, members, init}
+use Rattle.cparts.specs.Parts.{optional_init, inits, init_declarator, init_declarators, object, stmt, optional_stmt, for_first}
+use Rattle.cparts.specs.Parts.{items, label, switch_items, external_rest, function_end, parameters, parameter, parameter_list, unit}
+use Rattle.cparts.specs.Parts.{units, register_type}
 
 -- where a production stands: how many nodes end before it does, and its tokens, its parts' among them
 pub record Place : Type 0 where

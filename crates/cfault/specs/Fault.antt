@@ -1,8 +1,10 @@
 -- Which of several broken rules is reported: the least by line, then column, then the rule's number.
-use Rattle.std.specs.Prelude.{ℕ, Bool, true, false, ◌==◌, nat_lt, if◌then◌else◌, Option, Some, None, List, [], ◌∷◌, ◌≡◌, All, Contains, cond}
+use Rattle.std.specs.Prelude.{ℕ, Bool, true, false, ◌==◌, nat_lt, if◌then◌else◌, Option, Some}
+use Rattle.std.specs.Prelude.{None, List, [], ◌∷◌, ◌≡◌, All, Contains, cond}
 use Rattle.csyn.specs.declared.span.Span.{Span}
 use Rattle.csyn.specs.declared.cause.Cause.{Cause}
-use Rattle.csyn.specs.declared.cause.Cause.TheVariants.{S1, S2, S3, S4, S5, S6, S7, S8, S9, S10, S11, S12, S13, S14, S15, S16, S17, S18, S19, S20, S21, S22, S23, S24, S25}
+use Rattle.csyn.specs.declared.cause.Cause.TheVariants.{S1, S2, S3, S4, S5, S6, S7, S8, S9, S10, S11, S12, S13, S14, S15, S16}
+use Rattle.csyn.specs.declared.cause.Cause.TheVariants.{S17, S18, S19, S20, S21, S22, S23, S24, S25}
 use Rattle.cfault.specs.declared.fault.Fault.{Fault}
 
 abbrev pub rule_number : Cause → ℕ

@@ -443,7 +443,9 @@ template make.StructMember = part type ∷ part declarator ∷ part more_declara
 template make.EndMembers = []
 template make.NextMember = part member ∷ part more_members ∷ []
 template make.NoLocation = []
-template make.Location = word keyword.Attribute ∷ sign punctuator.LeftParenthesis ∷ sign punctuator.LeftParenthesis ∷ token terminal.LocationName ∷ sign punctuator.LeftParenthesis ∷ part (level 0) ∷ sign punctuator.RightParenthesis ∷ sign punctuator.RightParenthesis ∷ sign punctuator.RightParenthesis ∷ []
+template make.Location = word keyword.Attribute ∷ sign punctuator.LeftParenthesis ∷ sign punctuator.LeftParenthesis
+    ∷ token terminal.LocationName ∷ sign punctuator.LeftParenthesis ∷ part (level 0) ∷ sign punctuator.RightParenthesis
+    ∷ sign punctuator.RightParenthesis ∷ sign punctuator.RightParenthesis ∷ []
 template make.NoInitial = []
 template make.Initial = sign punctuator.Assign ∷ part init ∷ []
 template make.InitialExpression = part (level 1) ∷ []
@@ -458,15 +460,20 @@ template make.NextInitDeclarator = sign punctuator.Comma ∷ part init_declarato
 template make.LocalObject = part type ∷ part init_declarator ∷ part more_init_declarators ∷ sign punctuator.Semicolon ∷ []
 template make.Block = sign punctuator.LeftBrace ∷ part items ∷ sign punctuator.RightBrace ∷ []
 template make.ExpressionStatement = part optional_expression ∷ sign punctuator.Semicolon ∷ []
-template make.If = word keyword.If ∷ sign punctuator.LeftParenthesis ∷ part (level 0) ∷ sign punctuator.RightParenthesis ∷ part statement ∷ part optional_else ∷ []
+template make.If = word keyword.If ∷ sign punctuator.LeftParenthesis ∷ part (level 0) ∷ sign punctuator.RightParenthesis
+    ∷ part statement ∷ part optional_else ∷ []
 template make.NoElse = []
 template make.Else = word keyword.Else ∷ part statement ∷ []
-template make.While = word keyword.While ∷ sign punctuator.LeftParenthesis ∷ part (level 0) ∷ sign punctuator.RightParenthesis ∷ part statement ∷ []
-template make.Do = word keyword.Do ∷ part statement ∷ word keyword.While ∷ sign punctuator.LeftParenthesis ∷ part (level 0) ∷ sign punctuator.RightParenthesis ∷ sign punctuator.Semicolon ∷ []
+template make.While = word keyword.While ∷ sign punctuator.LeftParenthesis ∷ part (level 0) ∷ sign punctuator.RightParenthesis
+    ∷ part statement ∷ []
+template make.Do = word keyword.Do ∷ part statement ∷ word keyword.While ∷ sign punctuator.LeftParenthesis ∷ part (level 0)
+    ∷ sign punctuator.RightParenthesis ∷ sign punctuator.Semicolon ∷ []
 template make.ForObject = part object ∷ []
 template make.ForExpression = part optional_expression ∷ sign punctuator.Semicolon ∷ []
-template make.For = word keyword.For ∷ sign punctuator.LeftParenthesis ∷ part for_first ∷ part optional_expression ∷ sign punctuator.Semicolon ∷ part optional_expression ∷ sign punctuator.RightParenthesis ∷ part statement ∷ []
-template make.Switch = word keyword.Switch ∷ sign punctuator.LeftParenthesis ∷ part (level 0) ∷ sign punctuator.RightParenthesis ∷ sign punctuator.LeftBrace ∷ part switch_items ∷ sign punctuator.RightBrace ∷ []
+template make.For = word keyword.For ∷ sign punctuator.LeftParenthesis ∷ part for_first ∷ part optional_expression
+    ∷ sign punctuator.Semicolon ∷ part optional_expression ∷ sign punctuator.RightParenthesis ∷ part statement ∷ []
+template make.Switch = word keyword.Switch ∷ sign punctuator.LeftParenthesis ∷ part (level 0) ∷ sign punctuator.RightParenthesis
+    ∷ sign punctuator.LeftBrace ∷ part switch_items ∷ sign punctuator.RightBrace ∷ []
 template make.NoSwitchItems = []
 template make.FirstLabel = part label ∷ part more_switch_items ∷ []
 template make.EndSwitchItems = []
@@ -478,12 +485,15 @@ template make.Break = word keyword.Break ∷ sign punctuator.Semicolon ∷ []
 template make.Continue = word keyword.Continue ∷ sign punctuator.Semicolon ∷ []
 template make.Return = word keyword.Return ∷ part optional_expression ∷ sign punctuator.Semicolon ∷ []
 template make.RegionName = token terminal.Literal ∷ []
-template make.Region = word keyword.Region ∷ sign punctuator.LeftParenthesis ∷ part region_name ∷ sign punctuator.RightParenthesis ∷ sign punctuator.LeftBrace ∷ part items ∷ sign punctuator.RightBrace ∷ []
+template make.Region = word keyword.Region ∷ sign punctuator.LeftParenthesis ∷ part region_name ∷ sign punctuator.RightParenthesis
+    ∷ sign punctuator.LeftBrace ∷ part items ∷ sign punctuator.RightBrace ∷ []
 template make.EndItems = []
 template make.NextObject = part object ∷ part items ∷ []
 template make.NextStatement = part statement ∷ part items ∷ []
-template make.StructUnit = word keyword.Struct ∷ part identifier ∷ sign punctuator.LeftBrace ∷ part member ∷ part more_members ∷ sign punctuator.RightBrace ∷ sign punctuator.Semicolon ∷ []
-template make.RegisterUnit = word keyword.Volatile ∷ word keyword.Register ∷ part register_type ∷ token terminal.RegisterName ∷ sign punctuator.Semicolon ∷ []
+template make.StructUnit = word keyword.Struct ∷ part identifier ∷ sign punctuator.LeftBrace ∷ part member ∷ part more_members
+    ∷ sign punctuator.RightBrace ∷ sign punctuator.Semicolon ∷ []
+template make.RegisterUnit = word keyword.Volatile ∷ word keyword.Register ∷ part register_type ∷ token terminal.RegisterName
+    ∷ sign punctuator.Semicolon ∷ []
 template make.UnsignedInt = word keyword.Unsigned ∷ word keyword.Int ∷ []
 template make.RegisterUint32 = token terminal.Uint32 ∷ []
 template make.External = part type ∷ part pointers ∷ part identifier ∷ part external_rest ∷ []

@@ -22,7 +22,16 @@ digit_small b is =
     rw (le-ltb b 48 low, lt-ltb b 58 (omega arith)) (omega arith)
 
 single : (radix b : ℕ) → digit_value b < radix → digit_value b ≤ 4294967295 → IsInteger radix (b ∷ []) (digit_value b) false
-single radix b small fits = record { digits = b ∷ []; suffix = []; parts = refl; numeral = (omega arith, (small, tt)); value_is = omega arith; in_range = fits; suffix_is = refl }
+single radix b small fits = record {
+  digits = b ∷ [];
+  suffix = [];
+  parts = refl;
+  numeral = (omega arith, (small, tt));
+  value_is =
+      omega arith;
+  in_range = fits;
+  suffix_is = refl;
+}
 
 digit_number : (b : ℕ) → is_ascii_digit b ≡ true → IsNumber (b ∷ []) (digit_value b) false
 digit_number b is =
@@ -46,7 +55,8 @@ apart_1_3 : (text : List ℕ) → BeginsNoToken text → BeginsWith is_quote tex
 apart_1_3 [] none quote = none
 apart_1_3 (b ∷ behind) none quote =
     ⊎_elim
-    (λ h. subst (λ (c : ℕ). BeginsNoToken (c ∷ behind)) (eqb-true b 39 h) none (token.Character (record { spelling = 39 ∷ 97 ∷ 39 ∷ []; value = 97 })) (97 ∷ 39 ∷ []) (refl, plain refl refl))
+    (λ h. subst (λ (c : ℕ). BeginsNoToken (c ∷ behind)) (eqb-true b 39 h) none
+    (token.Character (record { spelling = 39 ∷ 97 ∷ 39 ∷ []; value = 97 })) (97 ∷ 39 ∷ []) (refl, plain refl refl))
     (λ h. subst (λ (c : ℕ). BeginsNoToken (c ∷ behind)) (eqb-true b 34 h) none (token.Literal []) (34 ∷ []) (refl, refl))
     (or_cases (eqb b 39) (eqb b 34) quote)
 

@@ -15,13 +15,15 @@ pub record Closes (behind left : List ℕ) : Type 0 where
 at_once : ClosesOnce []
 at_once front back e = omega (arith, ap length e, length-append front (42 ∷ 47 ∷ back))
 
-later : (a b : ℕ) (behind body left : List ℕ) → (eqb a 42 && eqb b 47) ≡ false → b ∷ behind ≡ body ++ 42 ∷ 47 ∷ left → ClosesOnce body → ClosesOnce (a ∷ body)
+later : (a b : ℕ) (behind body left : List ℕ) → (eqb a 42 && eqb b 47) ≡ false → b ∷ behind ≡ body ++ 42 ∷ 47 ∷ left
+    → ClosesOnce body → ClosesOnce (a ∷ body)
 later a b behind [] left differ parts once [] back e = let slash : 42 ≡ 47 = cc in false≢true (eq-eqb 42 47 slash)
 later a b behind (c ∷ body) left differ parts once [] back e =
     let star : a ≡ 42 = cc in
     let slash : b ≡ 47 = cc in
     both_ways _ differ (and_from _ _ (eq-eqb a 42 star) (eq-eqb b 47 slash))
-later a b behind body left differ parts once (f ∷ front) back e = let rest : body ++ 42 ∷ [] ≡ front ++ 42 ∷ 47 ∷ back = cc in once front back rest
+later a b behind body left differ parts once (f ∷ front) back e = let rest : body ++ 42 ∷ [] ≡ front ++ 42 ∷ 47 ∷ back = cc in
+    once front back rest
 
 pub comment_parts : (behind left : List ℕ) → after_comment behind ≡ Some left → Closes behind left
 comment_parts [] left e = absurd cc
@@ -40,7 +42,12 @@ comment_parts (a ∷ b ∷ behind) left e =
         record { body = []; parts = cc; once = at_once }
 
     longer : (eqb a 42 && eqb b 47) ≡ false → Closes (b ∷ behind) left → Closes (a ∷ b ∷ behind) left
-    longer differ rest = record { body = a ∷ rest.body; parts = ap (λ (t : List ℕ). a ∷ t) rest.parts; once = later a b behind rest.body left differ rest.parts rest.once }
+    longer differ rest = record {
+      body = a ∷ rest.body;
+      parts = ap (λ (t : List ℕ). a ∷ t) rest.parts;
+      once =
+          later a b behind rest.body left differ rest.parts rest.once;
+    }
 
 shorter : (x : ℕ) (body : List ℕ) → ClosesOnce (x ∷ body) → ClosesOnce body
 shorter x body once front back e = once (x ∷ front) back (ap (λ (t : List ℕ). x ∷ t) e)

@@ -1,5 +1,6 @@
 -- The next piece: what is read stands there, and what stands there is read.
-use Rattle.std.proofs.Common.{◌≡◌, ℕ, true, false, eqb, ◌||◌, List, [], ◌∷◌, ◌++◌, length, take, drop, Option, Some, None, Ok, refl, sym, ap, ◌∙◌, subst, arith, inl, inr, append_assoc}
+use Rattle.std.proofs.Common.{◌≡◌, ℕ, true, false, eqb, ◌||◌, List, [], ◌∷◌, ◌++◌, length, take, drop, Option, Some}
+use Rattle.std.proofs.Common.{None, Ok, refl, sym, ap, ◌∙◌, subst, arith, inl, inr, append_assoc}
 use Rattle.std.specs.List.{prefix_len, list_all}
 use Rattle.std.proofs.lemmas.Bool.{or_cases, eqb-true, eq-eqb, both_ways, cond_both}
 use Rattle.std.proofs.lemmas.List.{take-append-drop, drop_at}
@@ -41,13 +42,15 @@ joined_again : (left : List ℕ) → piece_at (92 ∷ 10 ∷ left) ≡ Ok (None,
 unfolding piece_at
 joined_again left = refl
 
-line_again : (body left : List ℕ) → list_all is_within_line body ≡ true → StopsAt is_within_line left → piece_at ((47 ∷ 47 ∷ body) ++ left) ≡ Ok (None, left)
+line_again : (body left : List ℕ) → list_all is_within_line body ≡ true → StopsAt is_within_line left
+    → piece_at ((47 ∷ 47 ∷ body) ++ left) ≡ Ok (None, left)
 unfolding piece_at slash_at
 line_again body left all stops = rw (run_length is_within_line body left all stops, drop_at body left (length body) refl) refl
 
 block_again : (body left : List ℕ) → ClosesOnce body → piece_at ((47 ∷ 42 ∷ body ++ 42 ∷ 47 ∷ []) ++ left) ≡ Ok (None, left)
 unfolding piece_at slash_at
-block_again body left once = ap (λ (t : List ℕ). comment_end (after_comment t)) (append_assoc body (42 ∷ 47 ∷ []) left) ∙ ap comment_end (comment_again body left once)
+block_again body left once = ap (λ (t : List ℕ). comment_end (after_comment t)) (append_assoc body (42 ∷ 47 ∷ []) left)
+    ∙ ap comment_end (comment_again body left once)
 
 white_again : (bytes left : List ℕ) → IsWhite bytes left → piece_at (bytes ++ left) ≡ Ok (None, left)
 white_again bytes left (blank b e is) = ap (λ (t : List ℕ). piece_at (t ++ left)) e ∙ blank_again b left is
@@ -59,9 +62,12 @@ white_again bytes left (block_comment body e once) = ap (λ (t : List ℕ). piec
 
 pub piece_again : (kind : Option TokenKind) (bytes left : List ℕ) → IsPiece kind bytes left → piece_at (bytes ++ left) ≡ Ok (kind, left)
 piece_again None bytes left is = white_again bytes left is
-piece_again (Some (token.Identifier name)) bytes left is = ap (λ (t : List ℕ). piece_at (t ++ left)) is.0.0 ∙ identifier_again name left is.0.1 is.1
-piece_again (Some (token.Number n)) bytes left is = ap (λ (t : List ℕ). piece_at (t ++ left)) is.0.0 ∙ number_again n.spelling left n.value n.is_unsigned is.0.1 is.1
-piece_again (Some (token.Character c)) bytes left is = ap (λ (t : List ℕ). piece_at (t ++ left)) is.0.0 ∙ character_again c.spelling c.value left is.0.1
+piece_again (Some (token.Identifier name)) bytes left is = ap (λ (t : List ℕ). piece_at (t ++ left)) is.0.0
+    ∙ identifier_again name left is.0.1 is.1
+piece_again (Some (token.Number n)) bytes left is = ap (λ (t : List ℕ). piece_at (t ++ left)) is.0.0
+    ∙ number_again n.spelling left n.value n.is_unsigned is.0.1 is.1
+piece_again (Some (token.Character c)) bytes left is = ap (λ (t : List ℕ). piece_at (t ++ left)) is.0.0
+    ∙ character_again c.spelling c.value left is.0.1
 piece_again (Some (token.Literal text)) bytes left is = ap (λ (t : List ℕ). piece_at (t ++ left)) is.0.0 ∙ literal_again text left is.0.1
 piece_again (Some (token.Keyword k)) bytes left is = keyword_again bytes left k is.0 is.1
 piece_again (Some (token.Punctuator p)) bytes left is = punctuator_again bytes left p is.0 is.1
@@ -126,7 +132,8 @@ unfolding slash_at
 slash_sound [] = operator_sound 47 [] slash_byte alone
 slash_sound (b ∷ behind) =
     cond_both (eqb b 47) _ _ (IsSound (47 ∷ b ∷ behind))
-    (λ h. subst (λ (c : ℕ). IsSound (47 ∷ c ∷ behind) (Ok (None, drop (prefix_len is_within_line behind) behind))) (sym (eqb-true b 47 h)) (line_sound behind))
+    (λ h. subst (λ (c : ℕ). IsSound (47 ∷ c ∷ behind) (Ok (None, drop (prefix_len is_within_line behind) behind)))
+    (sym (eqb-true b 47 h)) (line_sound behind))
     (λ no_line. cond_both (eqb b 42) _ _ (IsSound (47 ∷ b ∷ behind))
     (λ h. subst (λ (c : ℕ). IsSound (47 ∷ c ∷ behind) (comment_end (after_comment behind))) (sym (eqb-true b 42 h)) (block_sound behind))
     (λ no_block. operator_sound 47 (b ∷ behind) slash_byte (otherwise b behind no_line no_block)))
@@ -138,7 +145,8 @@ backslash_sound : (behind : List ℕ) → IsSound (92 ∷ behind) (backslash_at 
 backslash_sound [] = backslash_alone []
 backslash_sound (b ∷ left) =
     cond_both (eqb b 10) _ _ (IsSound (92 ∷ b ∷ left))
-    (λ h. subst (λ (c : ℕ). IsSound (92 ∷ c ∷ left) (Ok (None, left))) (sym (eqb-true b 10 h)) (record { bytes = 92 ∷ 10 ∷ []; parts = refl; some = omega arith; is = joined refl }))
+    (λ h. subst (λ (c : ℕ). IsSound (92 ∷ c ∷ left) (Ok (None, left))) (sym (eqb-true b 10 h))
+    (record { bytes = 92 ∷ 10 ∷ []; parts = refl; some = omega arith; is = joined refl }))
     (λ _. backslash_alone (b ∷ left))
 
 pub piece_sound : (b : ℕ) (behind : List ℕ) → IsSound (b ∷ behind) (piece_at (b ∷ behind))
@@ -149,11 +157,13 @@ piece_sound b behind =
     (λ no_word. cond_both (is_blank b) _ _ (IsSound (b ∷ behind))
     (λ is. record { bytes = b ∷ []; parts = refl; some = omega arith; is = blank b refl is })
     (λ _. cond_both (eqb b 39) _ _ (IsSound (b ∷ behind))
-    (λ h. subst (λ (c : ℕ). IsSound (c ∷ behind) (character_token (c ∷ behind) (character_at behind))) (sym (eqb-true b 39 h)) (character_sound behind))
+    (λ h. subst (λ (c : ℕ). IsSound (c ∷ behind) (character_token (c ∷ behind) (character_at behind))) (sym (eqb-true b 39 h))
+    (character_sound behind))
     (λ no_quote. cond_both (eqb b 34) _ _ (IsSound (b ∷ behind))
     (λ h. subst (λ (c : ℕ). IsSound (c ∷ behind) (literal_at behind)) (sym (eqb-true b 34 h)) (literal_sound behind))
     (λ no_double_quote. cond_both (eqb b 47) _ _ (IsSound (b ∷ behind))
     (λ h. subst (λ (c : ℕ). IsSound (c ∷ behind) (slash_at behind)) (sym (eqb-true b 47 h)) (slash_sound behind))
     (λ no_slash. cond_both (eqb b 92) _ _ (IsSound (b ∷ behind))
     (λ h. subst (λ (c : ℕ). IsSound (c ∷ behind) (backslash_at behind)) (sym (eqb-true b 92 h)) (backslash_sound behind))
-    (λ _. operator_sound b behind (record { no_word = no_word; no_quote = no_quote; no_double_quote = no_double_quote }) (elsewhere b behind no_slash)))))))
+    (λ _. operator_sound b behind (record { no_word = no_word; no_quote = no_quote; no_double_quote = no_double_quote })
+    (elsewhere b behind no_slash)))))))

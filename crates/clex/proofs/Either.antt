@@ -22,7 +22,8 @@ by-piece text rest place tokens so-far some (Ok (kind, left)) read go-on =
 by-piece text rest place tokens so-far some (Err cause) read go-on =
     inr (place.span, cause, stops_at text rest place tokens cause so-far some read)
 
-from : (n : ℕ) (text rest : List ℕ) (place : Place) (tokens : List Token) → SoFar text rest place tokens → length rest < n → TokensOrFault text
+from : (n : ℕ) (text rest : List ℕ) (place : Place) (tokens : List Token) → SoFar text rest place tokens → length rest < n
+    → TokensOrFault text
 from zero text rest place tokens so-far less = absurd (omega (arith, less))
 from (suc n) text [] place tokens so-far less = inl (_, ends text [] place tokens so-far refl)
 from (suc n) text (b ∷ behind) place tokens so-far less =

@@ -1,10 +1,12 @@
 -- What is read of an integer constant is in its written form, and what is in that form is read.
-use Rattle.std.proofs.Common.{◌≡◌, ℕ, ◌+◌, ◌*◌, ◌<◌, ◌≤◌, Bool, true, false, cond, eqb, leb, ◌&&◌, ◌||◌, List, [], ◌∷◌, ◌++◌, length, take, drop, get_or, Option, Some, None, refl, sym, ap, ◌∙◌, arith, inl, inr, ◌⊎◌, lit≤}
+use Rattle.std.proofs.Common.{◌≡◌, ℕ, ◌+◌, ◌*◌, ◌<◌, ◌≤◌, Bool, true, false, cond, eqb, leb, ◌&&◌, ◌||◌, List, [], ◌∷◌, ◌++◌}
+use Rattle.std.proofs.Common.{length, take, drop, get_or, Option, Some, None, refl, sym, ap, ◌∙◌, arith, inl, inr, ◌⊎◌, lit≤}
 use Rattle.std.specs.Prelude.{option_and_then}
 use Rattle.std.specs.List.{prefix_len, list_all}
 use Rattle.std.specs.Char.{digit_value, is_digit}
 use Rattle.std.specs.Str.Parse.{AllDigits, digits_value, digits_value_after}
-use Rattle.std.proofs.lemmas.Bool.{and_parts, and_from, or_cases, eqb-true, eqb-false, ne_eqb, ltb-true, lt-ltb, le-ltb, leb-true, le-leb, lt-leb, leb-false}
+use Rattle.std.proofs.lemmas.Bool.{and_parts, and_from, or_cases, eqb-true, eqb-false, ne_eqb, ltb-true}
+use Rattle.std.proofs.lemmas.Bool.{lt-ltb, le-ltb, leb-true, le-leb, lt-leb, leb-false}
 use Rattle.std.proofs.lemmas.List.{take_at, drop_at, take-append-drop}
 use Rattle.std.proofs.lemmas.List.Folds.{length-prefix_len}
 use Rattle.std.proofs.Math.Nat.{mul-le-mul_left}
@@ -81,16 +83,19 @@ suffix_stops radix (a ∷ b ∷ c ∷ rest) u small e = absurd cc
 
 -- ---- integers
 
-integer_parts : (radix : ℕ) (digits suffix : List ℕ) (u : Bool) → radix ≤ 16 → 0 < length digits → AllDigits radix digits → suffix_of suffix ≡ Some u
+integer_parts : (radix : ℕ) (digits suffix : List ℕ) (u : Bool) → radix ≤ 16 → 0 < length digits → AllDigits radix digits
+    → suffix_of suffix ≡ Some u
     → digits_value radix digits ≤ most → integer_of radix (digits ++ suffix) ≡ Some (digits_value radix digits, u)
 unfolding integer_of
 integer_parts radix digits suffix u small some all suffix_is fits =
-    let n_is = run_length (λ b. is_digit b radix) digits suffix (digits_pass radix digits all) (suffix_stops radix suffix u small suffix_is) in
+    let n_is = run_length (λ b. is_digit b radix) digits suffix (digits_pass radix digits all)
+    (suffix_stops radix suffix u small suffix_is) in
     let not_none : eqb (length digits) 0 ≡ false = ne_eqb (length digits) 0 (λ e. omega arith) in
     let in_range_is : leb (digits_value radix digits) most ≡ true = le-leb _ _ fits in
     rw (n_is, not_none, take_at digits suffix (length digits) refl, drop_at digits suffix (length digits) refl, suffix_is, in_range_is) refl
 
-integer_again : (radix : ℕ) (text : List ℕ) (value : ℕ) (u : Bool) → radix ≤ 16 → IsInteger radix text value u → integer_of radix text ≡ Some (value, u)
+integer_again : (radix : ℕ) (text : List ℕ) (value : ℕ) (u : Bool) → radix ≤ 16 → IsInteger radix text value u
+    → integer_of radix text ≡ Some (value, u)
 integer_again radix text value u small is =
     ap (integer_of radix) is.parts
     ∙ integer_parts radix is.digits is.suffix u small is.numeral.0 is.numeral.1 is.suffix_is (omega (arith, is.in_range, is.value_is))
@@ -100,7 +105,8 @@ unless_true : {X : Type 0} (t : Bool) (o : Option X) (y : X) → cond t None o �
 unless_true true o y e = absurd cc
 unless_true false o y e = (refl, e)
 
-and_then_some : {X Y : Type 0} (f : X → Option Y) (o : Option X) (y : Y) → option_and_then f o ≡ Some y → (x : X) × (o ≡ Some x) × (f x ≡ Some y)
+and_then_some : {X Y : Type 0} (f : X → Option Y) (o : Option X) (y : Y) → option_and_then f o ≡ Some y
+    → (x : X) × (o ≡ Some x) × (f x ≡ Some y)
 and_then_some f None y e = absurd cc
 and_then_some f (Some x) y e = (x, refl, e)
 

@@ -1,5 +1,6 @@
 -- Character constants and string literals: what is read is so written, and what is so written is read.
-use Rattle.std.proofs.Common.{◌≡◌, ℕ, ◌+◌, ◌-◌, ◌*◌, ◌<◌, Bool, true, false, cond, eqb, ltb, ◌&&◌, List, [], ◌∷◌, ◌++◌, length, take, drop, Option, Some, None, Ok, Err, refl, sym, ap, ◌∙◌, subst, arith, inl, inr, append_assoc}
+use Rattle.std.proofs.Common.{◌≡◌, ℕ, ◌+◌, ◌-◌, ◌*◌, ◌<◌, Bool, true, false, cond, eqb, ltb, ◌&&◌, List, [], ◌∷◌, ◌++◌, length}
+use Rattle.std.proofs.Common.{take, drop, Option, Some, None, Ok, Err, refl, sym, ap, ◌∙◌, subst, arith, inl, inr, append_assoc}
 use Rattle.std.specs.Prelude.{option_and_then}
 use Rattle.std.specs.List.{prefix_len, list_all}
 use Rattle.std.specs.Char.{digit_value}
@@ -18,7 +19,8 @@ guarded : {X : Type 0} (t : Bool) (x y : X) → cond t (Some x) None ≡ Some y 
 guarded true x y e = (refl, cc)
 guarded false x y e = absurd cc
 
-and_then_some : {X Y : Type 0} (f : X → Option Y) (o : Option X) (y : Y) → option_and_then f o ≡ Some y → (x : X) × (o ≡ Some x) × (f x ≡ Some y)
+and_then_some : {X Y : Type 0} (f : X → Option Y) (o : Option X) (y : Y) → option_and_then f o ≡ Some y
+    → (x : X) × (o ≡ Some x) × (f x ≡ Some y)
 and_then_some f None y e = absurd cc
 and_then_some f (Some x) y e = (x, refl, e)
 
@@ -41,7 +43,8 @@ hexadecimal_parts : (text : List ℕ) (c : ℕ × List ℕ) → hexadecimal_at t
 hexadecimal_parts [] c e = absurd cc
 hexadecimal_parts (high ∷ []) c e = absurd cc
 hexadecimal_parts (high ∷ low ∷ behind) c e =
-    let g = if_some (ltb (digit_value high) 16 && ltb (digit_value low) 16) (closed_at (16 * digit_value high + digit_value low) behind) c e in
+    let g = if_some (ltb (digit_value high) 16 && ltb (digit_value low) 16)
+    (closed_at (16 * digit_value high + digit_value low) behind) c e in
     let digits = and_parts (ltb (digit_value high) 16) (ltb (digit_value low) 16) g.0 in
     let closing = closed_parts (16 * digit_value high + digit_value low) behind c g.1 in
     record {
@@ -94,7 +97,8 @@ character_sound behind = by_value (character_at behind) refl
         let reads = character_parts behind c e in
         let text = 39 ∷ behind in
         let whole : 39 ∷ behind ≡ (39 ∷ reads.front) ++ c.1 = ap (λ (t : List ℕ). 39 ∷ t) reads.parts in
-        let long : length (39 ∷ reads.front) ≡ length (39 ∷ behind) - length c.1 = omega (arith, ap length reads.parts, length-append reads.front c.1) in
+        let long : length (39 ∷ reads.front) ≡ length (39 ∷ behind) - length c.1 =
+        omega (arith, ap length reads.parts, length-append reads.front c.1) in
         let spelling : 39 ∷ reads.front ≡ take (length (39 ∷ behind) - length c.1) (39 ∷ behind) =
         sym (ap (λ (t : List ℕ). take (length (39 ∷ behind) - length c.1) t) whole ∙ take_at (39 ∷ reads.front) c.1 _ long)
         in
@@ -140,11 +144,13 @@ character_again bytes value left (escaped x e is) =
     (character_front (92 ∷ x ∷ 39 ∷ []) left value (escaped_again x value left is))
 character_again bytes value left (hexadecimal high low e h l is) =
     subst (λ (b : List ℕ). piece_at (b ++ left) ≡ Ok (Some (token.Character (record { spelling = b; value = value })), left)) (sym e)
-    (character_front (92 ∷ 120 ∷ high ∷ low ∷ 39 ∷ []) left value (hexadecimal_again high low left h l ∙ ap (λ (v : ℕ). Some (v, left)) (sym is)))
+    (character_front (92 ∷ 120 ∷ high ∷ low ∷ 39 ∷ []) left value
+    (hexadecimal_again high low left h l ∙ ap (λ (v : ℕ). Some (v, left)) (sym is)))
 
 -- ---- string literals
 
-literal_front : (behind bytes rest : List ℕ) → behind ≡ bytes ++ rest → list_all is_literal_byte bytes ≡ true → IsSound (34 ∷ behind) (literal_token bytes rest)
+literal_front : (behind bytes rest : List ℕ) → behind ≡ bytes ++ rest → list_all is_literal_byte bytes ≡ true
+    → IsSound (34 ∷ behind) (literal_token bytes rest)
 literal_front behind bytes [] parts all = refl
 literal_front behind bytes (b ∷ left) parts all = by_test (eqb b 34) refl
   where
@@ -163,10 +169,16 @@ literal_sound behind =
     let n = prefix_len is_literal_byte behind in
     literal_front behind (take n behind) (drop n behind) (sym (take-append-drop n behind)) (front_passes is_literal_byte behind)
 
-literal_read : (text left : List ℕ) → list_all is_literal_byte text ≡ true → literal_at (text ++ 34 ∷ left) ≡ Ok (Some (token.Literal text), left)
+literal_read : (text left : List ℕ) → list_all is_literal_byte text ≡ true
+    → literal_at (text ++ 34 ∷ left) ≡ Ok (Some (token.Literal text), left)
 unfolding literal_at
 literal_read text left all =
-    rw (run_length is_literal_byte text (34 ∷ left) all refl, take_at text (34 ∷ left) (length text) refl, drop_at text (34 ∷ left) (length text) refl) refl
+    rw (
+      run_length is_literal_byte text (34 ∷ left) all refl,
+      take_at text (34 ∷ left) (length text) refl,
+      drop_at text (34 ∷ left)
+          (length text) refl,
+    ) refl
 
 pub literal_again : (text left : List ℕ) → list_all is_literal_byte text ≡ true
     → piece_at ((34 ∷ text ++ 34 ∷ []) ++ left) ≡ Ok (Some (token.Literal text), left)

@@ -18,7 +18,8 @@ pub front_passes : (p : ℕ → Bool) (text : List ℕ) → list_all p (take (pr
 front_passes p [] = refl
 front_passes p (b ∷ text) = by_test (front_passes p text) (p b) refl
   where
-    by_test : list_all p (take (prefix_len p text) text) ≡ true → (t : Bool) → p b ≡ t → list_all p (take (cond t (1 + prefix_len p text) 0) (b ∷ text)) ≡ true
+    by_test : list_all p (take (prefix_len p text) text) ≡ true → (t : Bool) → p b ≡ t
+        → list_all p (take (cond t (1 + prefix_len p text) 0) (b ∷ text)) ≡ true
     by_test rest true e =
         let one : 1 + prefix_len p text ≡ suc (prefix_len p text) = omega arith in
         rw (one, e) rest
@@ -29,14 +30,16 @@ pub front_stops : (p : ℕ → Bool) (text : List ℕ) → StopsAt p (drop (pref
 front_stops p [] = tt
 front_stops p (b ∷ text) = by_test (front_stops p text) (p b) refl
   where
-    by_test : StopsAt p (drop (prefix_len p text) text) → (t : Bool) → p b ≡ t → StopsAt p (drop (cond t (1 + prefix_len p text) 0) (b ∷ text))
+    by_test : StopsAt p (drop (prefix_len p text) text) → (t : Bool) → p b ≡ t
+        → StopsAt p (drop (cond t (1 + prefix_len p text) 0) (b ∷ text))
     by_test rest true e =
         let one : 1 + prefix_len p text ≡ suc (prefix_len p text) = omega arith in
         rw one rest
     by_test rest false e = e
 
 -- a front that begins with a byte that passes has that byte
-pub front_begins : (p : ℕ → Bool) (b : ℕ) (text : List ℕ) → p b ≡ true → take (prefix_len p (b ∷ text)) (b ∷ text) ≡ b ∷ take (prefix_len p text) text
+pub front_begins : (p : ℕ → Bool) (b : ℕ) (text : List ℕ) → p b ≡ true
+    → take (prefix_len p (b ∷ text)) (b ∷ text) ≡ b ∷ take (prefix_len p text) text
 front_begins p b text e =
     let one : 1 + prefix_len p text ≡ suc (prefix_len p text) = omega arith in
     rw (e, one) refl

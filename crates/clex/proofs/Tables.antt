@@ -1,5 +1,6 @@
 -- Looking up in tables of spellings: what every entry has, the entry at the front of a text, and that it is the longest.
-use Rattle.std.proofs.Common.{◌≡◌, ℕ, ◌≤◌, Bool, true, false, leb, ◌&&◌, List, [], ◌∷◌, ◌++◌, length, take, drop, Some, None, refl, sym, ap, ◌∙◌, subst, arith, inl, inr, nat_eq}
+use Rattle.std.proofs.Common.{◌≡◌, ℕ, ◌≤◌, Bool, true, false, leb, ◌&&◌, List, [], ◌∷◌, ◌++◌, length, take, drop}
+use Rattle.std.proofs.Common.{Some, None, refl, sym, ap, ◌∙◌, subst, arith, inl, inr, nat_eq}
 use Rattle.std.specs.List.{list_all, starts_with}
 use Rattle.std.specs.Str.{bytes_eq}
 use Rattle.std.proofs.lemmas.Bool.{and_parts, and_from, leb-true, le-leb, false_from_ne_true, both_ways}
@@ -46,7 +47,8 @@ is_descending [] = true
 is_descending (entry ∷ entries) = list_all (λ e. leb (length e.0) (length entry.0)) entries && is_descending entries
 
 -- none stands at the front
-pub none_front : (table : List Entry) (text bytes : List ℕ) (p : Punctuator) → front_in table text ≡ None → spelled table bytes ≡ Some p → starts_with nat_eq text bytes ≡ false
+pub none_front : (table : List Entry) (text bytes : List ℕ) (p : Punctuator) → front_in table text ≡ None
+    → spelled table bytes ≡ Some p → starts_with nat_eq text bytes ≡ false
 none_front [] text bytes p none e = absurd cc
 none_front (entry ∷ entries) text bytes p none e =
     elim (chosen (starts_with nat_eq text entry.0) (Some entry) (front_in entries text) None none) [
@@ -78,10 +80,12 @@ entry_at (entry ∷ entries) text found e =
 
     behind : starts_with nat_eq text entry.0 ≡ false → IsEntryAt entries text found → IsEntryAt (entry ∷ entries) text found
     behind apart rest =
-        let other = false_from_ne_true (bytes_eq entry.0 found.0) (λ h. both_ways _ apart (ap (λ (b : List ℕ). starts_with nat_eq text b) (same_bytes entry.0 found.0 h) ∙ rest.front)) in
+        let other = false_from_ne_true (bytes_eq entry.0 found.0)
+        (λ h. both_ways _ apart (ap (λ (b : List ℕ). starts_with nat_eq text b) (same_bytes entry.0 found.0 h) ∙ rest.front)) in
         record { front = rest.front; is = rw other rest.is }
 
-pub entry_longest : (table : List Entry) (text bytes : List ℕ) (found : Entry) (p : Punctuator) → is_descending table ≡ true → front_in table text ≡ Some found
+pub entry_longest : (table : List Entry) (text bytes : List ℕ) (found : Entry) (p : Punctuator) → is_descending table ≡ true
+    → front_in table text ≡ Some found
     → spelled table bytes ≡ Some p → starts_with nat_eq text bytes ≡ true → length bytes ≤ length found.0
 entry_longest [] text bytes found p order e is front = absurd cc
 entry_longest (entry ∷ entries) text bytes found p order e is front =
@@ -98,6 +102,7 @@ entry_longest (entry ∷ entries) text bytes found p order e is front =
     here shorter same =
         let own : leb (length entry.0) (length entry.0) ≡ true = le-leb (length entry.0) (length entry.0) (omega arith) in
         let all : list_all (λ e. leb (length e.0) (length entry.0)) (entry ∷ entries) ≡ true = and_from _ _ own shorter in
-        let le = leb-true (length bytes) (length entry.0) (spelling_passes (λ b. leb (length b) (length entry.0)) (entry ∷ entries) bytes p all is) in
+        let le = leb-true (length bytes) (length entry.0) (spelling_passes (λ b. leb (length b) (length entry.0)) (entry ∷ entries)
+        bytes p all is) in
         let eq : entry ≡ found = cc in
         omega (arith, le, ap (λ (f : Entry). length f.0) eq)

@@ -84,13 +84,15 @@ not_both text ts s c t p =
 
 -- ---- what is spelled is read, and the first fault is named
 
-pub read_again : {A : Type 0} (view : A → List Token) (text : List ℕ) (r : Result A SourceFault) → IfOk r (λ x. Spells (view x) text) → IfErr r (IsFaultOf text)
+pub read_again : {A : Type 0} (view : A → List Token) (text : List ℕ) (r : Result A SourceFault)
+    → IfOk r (λ x. Spells (view x) text) → IfErr r (IsFaultOf text)
     → (ts : List Token) → Spells ts text → Answers view r (Ok ts)
 read_again view text (Ok x) spelled broken ts spells = ap (λ (t : List Token). Ok t) (one_list text ts (view x) spells spelled)
 read_again view text (Err (Broken span cause)) spelled broken ts spells = absurd (not_both text ts span cause spells broken)
 read_again view text (Err Memory) spelled broken ts spells = tt
 
-pub named_again : {A : Type 0} (view : A → List Token) (text : List ℕ) (r : Result A SourceFault) → IfOk r (λ x. Spells (view x) text) → IfErr r (IsFaultOf text)
+pub named_again : {A : Type 0} (view : A → List Token) (text : List ℕ) (r : Result A SourceFault)
+    → IfOk r (λ x. Spells (view x) text) → IfErr r (IsFaultOf text)
     → (span : Span) (cause : Cause) → IsFault text span cause → Answers view r (Err (Broken span cause))
 named_again view text (Ok x) spelled broken span cause fault = absurd (not_both text (view x) span cause spelled fault)
 named_again view text (Err (Broken s c)) spelled broken span cause fault =

@@ -1,5 +1,6 @@
 -- Identifiers, keywords and numbers: what is read is so written, and what is so written is read.
-use Rattle.std.proofs.Common.{◌≡◌, ℕ, ◌<◌, Bool, true, false, cond, not, ◌&&◌, List, [], ◌∷◌, ◌++◌, length, take, drop, Option, Some, None, Ok, refl, sym, ap, ◌∙◌, subst, arith}
+use Rattle.std.proofs.Common.{◌≡◌, ℕ, ◌<◌, Bool, true, false, cond, not, ◌&&◌, List, [], ◌∷◌, ◌++◌, length, take}
+use Rattle.std.proofs.Common.{drop, Option, Some, None, Ok, refl, sym, ap, ◌∙◌, subst, arith}
 use Rattle.std.specs.List.{prefix_len, list_all}
 use Rattle.std.specs.Char.{is_ascii_digit}
 use Rattle.std.proofs.lemmas.Bool.{and_parts, not-true, cond_both}
@@ -51,7 +52,8 @@ pub record Runs (first : ℕ) (behind word left : List ℕ) : Type 0 where
   pub run : IsRun first word
   pub stops : StopsAt is_word_byte left
 
-number_sound : (first : ℕ) (behind word left : List ℕ) → Runs first behind word left → is_ascii_digit first ≡ true → (r : Option (ℕ × Bool)) → number_of word ≡ r
+number_sound : (first : ℕ) (behind word left : List ℕ) → Runs first behind word left → is_ascii_digit first ≡ true
+    → (r : Option (ℕ × Bool)) → number_of word ≡ r
     → IsSound (first ∷ behind) (number_token word left r)
 number_sound first behind word left runs digit None e = digit
 number_sound first behind word left runs digit (Some n) e = record {
@@ -61,7 +63,8 @@ number_sound first behind word left runs digit (Some n) e = record {
   is = ((refl, record { first = first; run = runs.run; digit = digit; constant = constant_read word n e }), runs.stops);
 }
 
-name_sound : (first : ℕ) (behind word left : List ℕ) → Runs first behind word left → is_ascii_digit first ≡ false → (r : Option Keyword) → keyword_of word ≡ r
+name_sound : (first : ℕ) (behind word left : List ℕ) → Runs first behind word left → is_ascii_digit first ≡ false
+    → (r : Option Keyword) → keyword_of word ≡ r
     → IsSound (first ∷ behind) (name_token word left r)
 name_sound first behind word left runs no_digit None e = record {
   bytes = word;
@@ -95,23 +98,34 @@ word_sound first behind passes =
 
 word_read : (first : ℕ) (others left : List ℕ) → list_all is_word_byte (first ∷ others) ≡ true → StopsAt is_word_byte left
     → piece_at ((first ∷ others) ++ left)
-    ≡ cond (is_ascii_digit first) (number_token (first ∷ others) left (number_of (first ∷ others))) (name_token (first ∷ others) left (keyword_of (first ∷ others)))
+    ≡ cond (is_ascii_digit first) (number_token (first ∷ others) left (number_of (first ∷ others)))
+    (name_token (first ∷ others) left (keyword_of (first ∷ others)))
 unfolding piece_at word_at
 word_read first others left all stops =
     let word = first ∷ others in
-    rw (run_length is_word_byte word left all stops, (and_parts (is_word_byte first) (list_all is_word_byte others) all).0, take_at word left (length word) refl, drop_at word left (length word) refl) refl
+    rw (
+      run_length is_word_byte word left all stops,
+      (and_parts (is_word_byte first) (list_all is_word_byte others) all).0,
+      take_at
+          word left (length word) refl,
+      drop_at word left (length word) refl,
+    ) refl
 
 run_read : (first : ℕ) (bytes left : List ℕ) → IsRun first bytes → StopsAt is_word_byte left
-    → piece_at (bytes ++ left) ≡ cond (is_ascii_digit first) (number_token bytes left (number_of bytes)) (name_token bytes left (keyword_of bytes))
+    → piece_at (bytes ++ left) ≡ cond (is_ascii_digit first) (number_token bytes left (number_of bytes))
+    (name_token bytes left (keyword_of bytes))
 run_read first bytes left run stops =
     let all = subst (λ (b : List ℕ). list_all is_word_byte b ≡ true) run.parts run.each in
-    subst (λ (b : List ℕ). piece_at (b ++ left) ≡ cond (is_ascii_digit first) (number_token b left (number_of b)) (name_token b left (keyword_of b))) (sym run.parts)
+    subst (λ (b : List ℕ). piece_at (b ++ left) ≡ cond (is_ascii_digit first) (number_token b left (number_of b))
+    (name_token b left (keyword_of b))) (sym run.parts)
     (word_read first run.others left all stops)
 
-pub identifier_again : (bytes left : List ℕ) → IsIdentifier bytes → StopsAt is_word_byte left → piece_at (bytes ++ left) ≡ Ok (Some (token.Identifier bytes), left)
+pub identifier_again : (bytes left : List ℕ) → IsIdentifier bytes → StopsAt is_word_byte left
+    → piece_at (bytes ++ left) ≡ Ok (Some (token.Identifier bytes), left)
 identifier_again bytes left is stops = run_read is.first bytes left is.run stops ∙ rw (is.no_digit, is.no_keyword) refl
 
-pub keyword_again : (bytes left : List ℕ) (k : Keyword) → keyword_of bytes ≡ Some k → StopsAt is_word_byte left → piece_at (bytes ++ left) ≡ Ok (Some (token.Keyword k), left)
+pub keyword_again : (bytes left : List ℕ) (k : Keyword) → keyword_of bytes ≡ Some k → StopsAt is_word_byte left
+    → piece_at (bytes ++ left) ≡ Ok (Some (token.Keyword k), left)
 keyword_again bytes left k is stops =
     let name = keyword_is_name bytes k is in
     run_read name.first bytes left name.run stops ∙ rw (name.no_digit, is) refl

@@ -18,7 +18,8 @@ pub data IsWhite (bytes left : List ℕ) : Type 0 where
   -- a backslash before a line end
   joined : bytes ≡ 92 ∷ 10 ∷ [] → IsWhite bytes left
   -- from `//` up to the line end, which is no part of it
-  line_comment : (body : List ℕ) → bytes ≡ 47 ∷ 47 ∷ body → IsTrue (list_all is_within_line body) → StopsAt is_within_line left → IsWhite bytes left
+  line_comment : (body : List ℕ) → bytes ≡ 47 ∷ 47 ∷ body → IsTrue (list_all is_within_line body) → StopsAt is_within_line left
+      → IsWhite bytes left
   -- from `/*` to the first `*/` behind it
   block_comment : (body : List ℕ) → bytes ≡ 47 ∷ 42 ∷ body ++ 42 ∷ 47 ∷ [] → ClosesOnce body → IsWhite bytes left
 

@@ -1,5 +1,6 @@
 -- How each token is written.
-use Rattle.std.specs.Prelude.{◌≡◌, ℕ, ◌+◌, ◌*◌, ◌<◌, Bool, true, false, ◌==◌, if◌then◌else◌, List, [], ◌∷◌, ◌++◌, length, Option, Some, None, IsTrue, ◌⊎◌}
+use Rattle.std.specs.Prelude.{◌≡◌, ℕ, ◌+◌, ◌*◌, ◌<◌, Bool, true, false, ◌==◌, if◌then◌else◌, List, []}
+use Rattle.std.specs.Prelude.{◌∷◌, ◌++◌, length, Option, Some, None, IsTrue, ◌⊎◌}
 use Rattle.std.specs.List.{list_all}
 use Rattle.std.specs.Char.{digit_value, is_ascii_digit}
 use Rattle.csyn.specs.Keyword.{keyword_of}
@@ -66,7 +67,8 @@ IsOperator bytes = ((p : Punctuator) × (punctuator_of bytes ≡ Some p)) ⊎ Op
 
 -- no longer front of the text is one
 abbrev pub IsLongestOperator : List ℕ → List ℕ → Type 0
-IsLongestOperator bytes left = (longer rest : List ℕ) → longer ++ rest ≡ bytes ++ left → length bytes < length longer → IsOperator longer → ⊥
+IsLongestOperator bytes left = (longer rest : List ℕ) → longer ++ rest ≡ bytes ++ left → length bytes < length longer
+    → IsOperator longer → ⊥
 
 -- A token is the longest that may stand there. An identifier, a keyword and a number take all letters, digits and `_`; a
 -- punctuator is the longest, and begins no comment; what has quotes ends with its second one.

@@ -22,7 +22,11 @@ is_first_after is_first None bytes = is_first || bytes_eq bytes (10 ∷ [])
 is_first_after is_first (Some _) bytes = false
 
 abbrev pub after_piece : Place → Piece → Place
-after_piece place piece = record { span = after_bytes place.span piece.bytes; is_first = is_first_after place.is_first piece.kind piece.bytes }
+after_piece place piece = record {
+  span = after_bytes place.span piece.bytes;
+  is_first =
+      is_first_after place.is_first piece.kind piece.bytes;
+}
 
 abbrev pub token_of : Place → TokenKind → Token
 token_of place kind = record { kind = kind; span = place.span; is_first_of_line = place.is_first }
@@ -48,11 +52,13 @@ IsCut (piece ∷ pieces) text left = (behind : List ℕ) × (text ≡ piece.byte
 
 -- the text is these tokens, white space aside, and the end
 abbrev pub Spells : List Token → List ℕ → Type 0
-Spells tokens text = (pieces : List Piece) × IsCut pieces text [] × (tokens ≡ tokens_from start pieces ++ token_of (place_after start pieces) End ∷ [])
+Spells tokens text = (pieces : List Piece) × IsCut pieces text []
+    × (tokens ≡ tokens_from start pieces ++ token_of (place_after start pieces) End ∷ [])
 
 -- white space and tokens come as far as this place, where neither stands
 abbrev pub IsFault : List ℕ → Span → Cause → Type 0
-IsFault text span cause = (pieces : List Piece) × (left : List ℕ) × IsCut pieces text left × (span ≡ (place_after start pieces).span) × Breaks cause left
+IsFault text span cause = (pieces : List Piece) × (left : List ℕ) × IsCut pieces text left
+    × (span ≡ (place_after start pieces).span) × Breaks cause left
 
 -- want of memory may always be answered; else it is the text's first fault
 abbrev pub IsFaultOf : List ℕ → SourceFault → Type 0

@@ -54,7 +54,8 @@ pub fn tokens(alloc: Global, bytes: &[u8]) -> Result<Vec<Token>, SourceFault>
 
     // A fault that is named is the first, and the first is named, unless memory is wanting.
     ensures broken { IfErr result (text.IsFaultOf bytes.now) }
-    ensures named { (span : Span) (cause : Cause) → text.IsFault bytes.now span cause → text.Answers (λ tokens. tokens.items) result (Err (SourceFault.Broken span cause)) }
+    ensures named { (span : Span) (cause : Cause) → text.IsFault bytes.now span cause
+        → text.Answers (λ tokens. tokens.items) result (Err (SourceFault.Broken span cause)) }
 {
     read(alloc, bytes)
 }

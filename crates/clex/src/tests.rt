@@ -91,16 +91,24 @@ fn longest(rt: HostRuntime) -> Result<(), Fail> {
                 "^1:1 LeftBracket 1:2 RightBracket 1:3 LeftParenthesis 1:4 RightParenthesis 1:5 LeftBrace 1:6 RightBrace 1:7 Dot 1:8 end",
             ),
             (
-                "~!/%^?:;,#",
-                "^1:1 Tilde 1:2 Exclamation 1:3 Slash 1:4 Percent 1:5 Caret 1:6 Question 1:7 Colon 1:8 Semicolon 1:9 Comma 1:10 Hash 1:11 end",
+                "~!/%^",
+                "^1:1 Tilde 1:2 Exclamation 1:3 Slash 1:4 Percent 1:5 Caret 1:6 end",
+            ),
+            (
+                "?:;,#",
+                "^1:1 Question 1:2 Colon 1:3 Semicolon 1:4 Comma 1:5 Hash 1:6 end",
             ),
             (
                 "== != >= >>",
                 "^1:1 Equal 1:4 NotEqual 1:7 GreaterEqual 1:10 ShiftRight 1:12 end",
             ),
             (
-                "*=/=%=+=-=&=^=|==",
-                "^1:1 MultiplyAssign 1:3 DivideAssign 1:5 RemainderAssign 1:7 AddAssign 1:9 SubtractAssign 1:11 AndAssign 1:13 XorAssign 1:15 OrAssign 1:17 Assign 1:18 end",
+                "*=/=%=+=-=",
+                "^1:1 MultiplyAssign 1:3 DivideAssign 1:5 RemainderAssign 1:7 AddAssign 1:9 SubtractAssign 1:11 end",
+            ),
+            (
+                "&=^=|==",
+                "^1:1 AndAssign 1:3 XorAssign 1:5 OrAssign 1:7 Assign 1:8 end",
             ),
             ("*>", "^1:1 Star 1:2 Greater 1:3 end"),
             (

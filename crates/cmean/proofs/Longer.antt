@@ -7,11 +7,13 @@ use Rattle.cmean.specs.Meaning.{mean, start}
 use Rattle.cmean.specs.Outcome.{shown}
 use Rattle.cmean.proofs.SteadyStatement.{steady-main}
 
-pub settled : (p : Program) (values : List ℕ) (few many : ℕ) → few ≤ many → goes_on (mean p values few) ≡ false → mean p values many ≡ mean p values few
+pub settled : (p : Program) (values : List ℕ) (few many : ℕ) → few ≤ many → goes_on (mean p values few) ≡ false
+    → mean p values many ≡ mean p values few
 unfolding mean
 settled p values few many less = ((steady-main p).longer few many less (start p values)).settled
 
-pub shown-more : (p : Program) (values : List ℕ) (few many : ℕ) → few ≤ many → (rest : List Shown) × (shown p values few ++ rest ≡ shown p values many)
+pub shown-more : (p : Program) (values : List ℕ) (few many : ℕ) → few ≤ many
+    → (rest : List Shown) × (shown p values few ++ rest ≡ shown p values many)
 unfolding mean
 shown-more p values few many less =
     let later = ((steady-main p).longer few many less (start p values)).later in

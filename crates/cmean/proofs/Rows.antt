@@ -138,7 +138,8 @@ five-more = refl
 
 -- unsigned char a = 255; a++; __R30 = a;
 byte-wraps : events (program (one byte ∷ []) (declares 0 (conversion.Integer int B1) (number 255)
-    (does (kind.Step' Old Up (plain (scalar.Integer byte)) nowhere at (local 0)) (does (put_as (conversion.Integer byte B4) (read byte 0)) items.End)))) [] 100
+    (does (kind.Step' Old Up (plain (scalar.Integer byte)) nowhere at (local 0))
+    (does (put_as (conversion.Integer byte B4) (read byte 0)) items.End)))) [] 100
     ≡ write 0 ∷ Halted ∷ []
 unfolding mean numbers.sext
 byte-wraps = refl
@@ -184,7 +185,8 @@ unset-read = refl
 
 -- switch (2) { case 1: __R30 = 10; case 2: __R30 = 20; break; default: __R30 = 30; }
 abbrev chooses : ℕ → Program
-chooses n = program [] (items.Statement' nowhere at (stmt.Switch (at_null (record { conversion = conversion.Same; value = node (number n) }))
+chooses n = program [] (items.Statement' nowhere at (stmt.Switch
+    (at_null (record { conversion = conversion.Same; value = node (number n) }))
     (switch.Case' at 1 nowhere (puts 10 (switch.Case' at 2 nowhere (puts 20 (switch.Statement' nowhere at stmt.Break nowhere
     (switch.Default' at nowhere (puts 30 switch.End)))))))) nowhere items.End)
   where

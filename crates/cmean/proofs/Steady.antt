@@ -1,5 +1,6 @@
 -- Runs with more budget: each is the same, or goes on, and what was shown stays shown.
-use Rattle.std.proofs.Common.{◌≡◌, ℕ, zero, suc, ◌≤◌, Bool, true, false, if◌then◌else◌, nat_lt, List, [], ◌∷◌, ◌++◌, refl, subst, ap, arith, append_assoc, Option, Some, None}
+use Rattle.std.proofs.Common.{◌≡◌, ℕ, zero, suc, ◌≤◌, Bool, true, false, if◌then◌else◌, nat_lt, List, [], ◌∷◌}
+use Rattle.std.proofs.Common.{◌++◌, refl, subst, ap, arith, append_assoc, Option, Some, None}
 use Rattle.std.proofs.lemmas.List.{append-nil}
 use Rattle.std.proofs.lemmas.Bool.{ltb-true, lt-ltb}
 use Rattle.behaviour.specs.declared.stop.Stop.{Stop}
@@ -16,7 +17,8 @@ use Rattle.csyn.specs.declared.span.Span.{Span}
 use Rattle.cmean.specs.declared.undefined.UndefinedCause.{UndefinedCause}
 use Rattle.cmean.specs.declared.undefined.UndefinedStep.{UndefinedStep}
 use Rattle.cmean.specs.Pointer.{Step, Gives, Breaks, Never}
-use Rattle.cmean.specs.State.{State, Shown, Run, give, then_with, then_do, with_state, change, stopped, in_budget, tick, node, entered, ticks, showing, mark_now, show, take_value, receive, undefined, never, given, sure, halt}
+use Rattle.cmean.specs.State.{State, Shown, Run, give, then_with, then_do, with_state, change, stopped, in_budget, tick, node}
+use Rattle.cmean.specs.State.{entered, ticks, showing, mark_now, show, take_value, receive, undefined, never, given, sure, halt}
 
 -- ---- what was shown stays shown
 
@@ -75,11 +77,13 @@ steady-stopped cause = record { grows = λ b s. later-refl s; longer = λ b c _ 
 
 -- ---- within the budget
 
-allowed : {A : Type 0} (x : Bool) (s : State) (r : Ran UndefinedStep State A) → Later s (state_of r) → Later s (state_of (if x then r else Stopped More s))
+allowed : {A : Type 0} (x : Bool) (s : State) (r : Ran UndefinedStep State A) → Later s (state_of r)
+    → Later s (state_of (if x then r else Stopped More s))
 allowed true s r later = later
 allowed false s r later = later-refl s
 
-allows : {A : Type 0} (x y : Bool) (s : State) (r r' : Ran UndefinedStep State A) → (x ≡ true → y ≡ true) → Later s (state_of r') → Extends Later r r'
+allows : {A : Type 0} (x y : Bool) (s : State) (r r' : Ran UndefinedStep State A) → (x ≡ true → y ≡ true) → Later s (state_of r')
+    → Extends Later r r'
     → Extends Later (if x then r else Stopped More s) (if y then r' else Stopped More s)
 allows true true s r r' more later extends = extends
 allows true false s r r' more later extends = let no = more refl in absurd cc
@@ -102,7 +106,8 @@ shows : (n : ℕ) (e : Event) (s t : State) → s.shown ≡ t.shown → Later s 
 shows n e s t same = record { rest = record { step = n; event = e } ∷ []; shown = ap (λ x. x ++ record { step = n; event = e } ∷ []) same }
 
 pub steady-tick : Steady tick
-steady-tick = steady-in_budget (steady-change (λ s. record s { steps = suc s.steps }) (λ s. later-same s (record s { steps = suc s.steps }) refl))
+steady-tick = steady-in_budget (steady-change (λ s. record s { steps = suc s.steps })
+    (λ s. later-same s (record s { steps = suc s.steps }) refl))
 
 pub steady-mark_now : (e : Event) → Steady (mark_now e)
 steady-mark_now e = steady-change (λ s. showing s.steps e s) (λ s. shows s.steps e s s refl)
@@ -113,7 +118,8 @@ steady-show e = steady-in_budget (steady-change (λ s. showing (suc s.steps) e s
 steady-take_value : (place : Place) (width : Width) (values : List ℕ) → Steady (take_value place width values)
 steady-take_value place width [] = steady-stopped Dry
 steady-take_value place width (v ∷ values) =
-    steady-do (steady-change _ (λ s. shows (suc s.steps) (Read place width (wrap width v)) s (record s { values = values }) refl)) (steady-give (wrap width v))
+    steady-do (steady-change _ (λ s. shows (suc s.steps) (Read place width (wrap width v)) s (record s { values = values }) refl))
+    (steady-give (wrap width v))
 
 pub steady-receive : (place : Place) (width : Width) → Steady (receive place width)
 steady-receive place width = steady-in_budget (steady-state (λ s. steady-take_value place width s.values))

@@ -14,7 +14,8 @@ use Rattle.cmean.specs.Datum.{Datum, Number, Null, Plain, Address, received, wri
 use Rattle.cmean.specs.State.{Run}
 use Rattle.memorymap.specs.Windows.{in_window}
 use Rattle.cmean.specs.Access.{Target, Pointed, OfRegister, within, leaf_of, set_leaf, reachable, register_place, load, send, store}
-use Rattle.cmean.proofs.Steady.{Steady, later-same, steady-give, steady-with, steady-do, steady-state, steady-change, steady-receive, steady-show, steady-undefined, steady-never, steady-given, steady-sure}
+use Rattle.cmean.proofs.Steady.{Steady, later-same, steady-give, steady-with, steady-do, steady-state, steady-change}
+use Rattle.cmean.proofs.Steady.{steady-receive, steady-show, steady-undefined, steady-never, steady-given, steady-sure}
 
 pub steady-if : {A : Type 0} (x : Bool) {a b : Run A} → Steady a → Steady b → Steady (if x then a else b)
 steady-if true a b = a
@@ -22,7 +23,8 @@ steady-if false a b = b
 
 pub steady-reachable : {A : Type 0} (span : Span) (w : Width) (a : ℕ) {run : Run A} → Steady run → Steady (reachable span w a run)
 steady-reachable span w a steady =
-    steady-if (not (a % byte_count w == 0)) (steady-undefined span Misaligned) (steady-if (in_window a) steady (steady-undefined span OutsideWindows))
+    steady-if (not (a % byte_count w == 0)) (steady-undefined span Misaligned)
+    (steady-if (in_window a) steady (steady-undefined span OutsideWindows))
 
 pub steady-load : (span : Span) (t : Scalar) (target : Target) → Steady (load span t target)
 steady-load span t (Pointed (Plain p)) = steady-state (λ s. steady-do (steady-given span (within s p)) (steady-given span (leaf_of s p)))

@@ -24,12 +24,16 @@ use Rattle.cprogram.specs.declared.value.PlaceKind as place
 use Rattle.cprogram.specs.declared.value.ValueKind as kind
 use Rattle.cprogram.specs.declared.value.Operands as operands
 use Rattle.cmean.specs.declared.undefined.UndefinedCause.TheVariants.{NoValue}
-use Rattle.cmean.specs.Datum.{Datum, Number, Null, Plain, Address, convert, extended, is_true, truth_number, unary, binary, comparison, signed_value, leftmost_bit}
+use Rattle.cmean.specs.Datum.{Datum, Number, Null, Plain, Address, convert, extended, is_true, truth_number}
+use Rattle.cmean.specs.Datum.{unary, binary, comparison, signed_value, leftmost_bit}
 use Rattle.cmean.specs.Pointer.{Step, moved, moved_by, member, decayed, difference, compare_pointers}
 use Rattle.cmean.specs.State.{State, Run, give, then_with, is_alive}
 use Rattle.cmean.specs.Access.{Target, Pointed, OfRegister, pad_place}
-use Rattle.cmean.specs.Expression.{Valued, datum, number_in, operand, number, index, truth, both, valued, whole, pointed, pointer_of, move, member_of, assign, number_step, update, step_value, step, one_further, logical, choice, arm, Calls, returned, delay, place_kind, value_kind, values}
-use Rattle.cmean.proofs.Steady.{Steady, steady-give, steady-with, steady-do, steady-state, steady-tick, steady-receive, steady-show, steady-undefined, steady-never, steady-given, steady-sure, steady-halt, steady-node, steady-ticks}
+use Rattle.cmean.specs.Expression.{Valued, datum, number_in, operand, number, index, truth, both, valued, whole, pointed}
+use Rattle.cmean.specs.Expression.{pointer_of, move, member_of, assign, number_step, update, step_value, step, one_further, logical}
+use Rattle.cmean.specs.Expression.{choice, arm, Calls, returned, delay, place_kind, value_kind, values}
+use Rattle.cmean.proofs.Steady.{Steady, steady-give, steady-with, steady-do, steady-state, steady-tick, steady-receive, steady-show}
+use Rattle.cmean.proofs.Steady.{steady-undefined, steady-never, steady-given, steady-sure, steady-halt, steady-node, steady-ticks}
 use Rattle.cmean.proofs.SteadyAccess.{steady-if, steady-load, steady-store, steady-send}
 
 pub steady-datum : {run : Run Valued} → Steady run → Steady (datum run)
@@ -53,7 +57,8 @@ steady-index sign c run = steady-with (steady-number c run) (λ n. steady-give (
 pub steady-truth : {run : Run Valued} → Steady run → Steady (truth run)
 steady-truth run = steady-with (steady-datum run) (λ d. steady-give (is_true d))
 
-steady-both : {A B C : Type 0} {a : Run A} {b : Run B} {f : A → B → Run C} → Steady a → Steady b → ((x : A) (y : B) → Steady (f x y)) → Steady (both a b f)
+steady-both : {A B C : Type 0} {a : Run A} {b : Run B} {f : A → B → Run C} → Steady a → Steady b
+    → ((x : A) (y : B) → Steady (f x y)) → Steady (both a b f)
 steady-both a b f = steady-with a (λ x. steady-with b (f x))
 
 steady-pointed : (span : Span) (step : State → Step Datum) → Steady (pointed span step)
@@ -86,7 +91,8 @@ steady-number_step (scalar.Pointer k) f d = steady-never
 steady-update : {B : Type 0} (span : Span) (a : Access) {place : Run Target} {right : Run B} {f : Datum → B → Run Datum}
     → Steady place → Steady right → ((d : Datum) (b : B) → Steady (f d b)) → Steady (update span a place right f)
 steady-update span a place right f =
-    steady-with place (λ t. steady-with (steady-load span a.scalar t) (λ old. steady-with right (λ b. steady-with (f old b) (steady-assign span a t))))
+    steady-with place (λ t. steady-with (steady-load span a.scalar t)
+    (λ old. steady-with right (λ b. steady-with (f old b) (steady-assign span a t))))
 
 steady-step : (span : Span) (which : StepValue) (a : Access) {place : Run Target} {f : Datum → Run Datum}
     → Steady place → ((d : Datum) → Steady (f d)) → Steady (step span which a place f)
@@ -118,7 +124,8 @@ steady-returned span (Unused t) v = steady-give v
 steady-returned span Void v = steady-give v
 
 steady-delay : (n : ℕ) → Steady (delay n)
-steady-delay n = steady-do (steady-show (event.DelayIn n)) (steady-do (steady-ticks (n - 1)) (steady-do (steady-show (event.DelayOut n)) (steady-give None)))
+steady-delay n = steady-do (steady-show (event.DelayIn n)) (steady-do (steady-ticks (n - 1))
+    (steady-do (steady-show (event.DelayOut n)) (steady-give None)))
 
 module _ (calls : Calls) (steady-calls : (f : ℕ) (ds : List Datum) → Steady (calls f ds)) where
   mutual
@@ -127,11 +134,13 @@ module _ (calls : Calls) (steady-calls : (f : ℕ) (ds : List Datum) → Steady 
     steady-place span (place.Global object) = steady-give (whole object.0)
     steady-place span (place.Volatile address) = steady-give (Pointed (Address address))
     steady-place span (place.Register r) = steady-give (OfRegister r)
-    steady-place span (place.Dereference' _ m p) = steady-with (steady-datum (steady-node (steady-value m.span p))) (λ d. steady-give (Pointed d))
+    steady-place span (place.Dereference' _ m p) = steady-with (steady-datum (steady-node (steady-value m.span p)))
+        (λ d. steady-give (Pointed d))
     steady-place span (place.Subscript' t _ m p sign _ c n i) =
         steady-both (steady-datum (steady-node (steady-value m.span p))) (steady-index sign c (steady-node (steady-value n.span i)))
         (λ d k. steady-with (steady-move span Up t d k) (λ e. steady-give (Pointed e)))
-    steady-place span (place.Member' _ m a offset) = steady-with (steady-node (steady-place m.span a)) (steady-member_of span (member offset))
+    steady-place span (place.Member' _ m a offset) = steady-with (steady-node (steady-place m.span a))
+        (steady-member_of span (member offset))
     steady-place span (place.Arrow' _ m p offset) =
         steady-with (steady-datum (steady-node (steady-value m.span p))) (λ d. steady-pointed span (λ _. member offset d))
 
@@ -139,11 +148,15 @@ module _ (calls : Calls) (steady-calls : (f : ℕ) (ds : List Datum) → Steady 
     steady-value span (kind.Number n _) = steady-number_value n
     steady-value span (kind.Read' a _ p) = steady-with (steady-place span p) (λ t. steady-with (steady-load span a.scalar t) steady-valued)
     steady-value span (kind.ArrayPointer' _ count _ p) =
-        steady-with (steady-place span p) (λ t. steady-with (steady-pointer_of t) (λ d. steady-with (steady-given span (decayed count d)) steady-valued))
-    steady-value span (kind.Address' _ _ m p) = steady-with (steady-node (steady-place m.span p)) (λ t. steady-with (steady-pointer_of t) steady-valued)
+        steady-with (steady-place span p) (λ t. steady-with (steady-pointer_of t)
+        (λ d. steady-with (steady-given span (decayed count d)) steady-valued))
+    steady-value span (kind.Address' _ _ m p) = steady-with (steady-node (steady-place m.span p))
+        (λ t. steady-with (steady-pointer_of t) steady-valued)
     steady-value span (kind.Cast' _ _ c m a) = steady-with (steady-operand c (steady-node (steady-value m.span a))) steady-valued
-    steady-value span (kind.Unary' op _ _ c m a) = steady-with (steady-number c (steady-node (steady-value m.span a))) (λ n. steady-number_value (unary op n))
-    steady-value span (kind.Not' _ m a) = steady-with (steady-truth (steady-node (steady-value m.span a))) (λ x. steady-number_value (truth_number (not x)))
+    steady-value span (kind.Unary' op _ _ c m a) = steady-with (steady-number c (steady-node (steady-value m.span a)))
+        (λ n. steady-number_value (unary op n))
+    steady-value span (kind.Not' _ m a) = steady-with (steady-truth (steady-node (steady-value m.span a)))
+        (λ x. steady-number_value (truth_number (not x)))
     steady-value span (kind.Binary' op sign _ c m a _ d n b) =
         steady-both (steady-number c (steady-node (steady-value m.span a))) (steady-number d (steady-node (steady-value n.span b)))
         (λ x y. steady-number_value (binary op sign x y))
@@ -152,10 +165,13 @@ module _ (calls : Calls) (steady-calls : (f : ℕ) (ds : List Datum) → Steady 
         (λ x y. steady-number_value (comparison op sign x y))
     steady-value span (kind.PointerComparison' op _ c m a _ d n b) =
         steady-both (steady-operand c (steady-node (steady-value m.span a))) (steady-operand d (steady-node (steady-value n.span b)))
-        (λ p q. steady-state (λ s. steady-with (steady-given span (compare_pointers (is_alive s) op p q)) (λ x. steady-number_value (truth_number x))))
-    steady-value span (kind.Logical' op _ m a _ n b) = steady-logical op (steady-node (steady-value m.span a)) (steady-node (steady-value n.span b))
+        (λ p q. steady-state (λ s. steady-with (steady-given span (compare_pointers (is_alive s) op p q))
+        (λ x. steady-number_value (truth_number x))))
+    steady-value span (kind.Logical' op _ m a _ n b) = steady-logical op (steady-node (steady-value m.span a))
+        (steady-node (steady-value n.span b))
     steady-value span (kind.Conditional' t _ k x _ c m a _ d n b) =
-        steady-choice (steady-node (steady-value k.span x)) (steady-arm t c (steady-node (steady-value m.span a))) (steady-arm t d (steady-node (steady-value n.span b)))
+        steady-choice (steady-node (steady-value k.span x)) (steady-arm t c (steady-node (steady-value m.span a)))
+        (steady-arm t d (steady-node (steady-value n.span b)))
     steady-value span (kind.Comma' _ _ m a _ n b) = steady-do (steady-node (steady-value m.span a)) (steady-node (steady-value n.span b))
     steady-value span (kind.PointerOffset' dir t _ m p sign _ c n i) =
         steady-both (steady-datum (steady-node (steady-value m.span p))) (steady-index sign c (steady-node (steady-value n.span i)))
@@ -172,8 +188,10 @@ module _ (calls : Calls) (steady-calls : (f : ℕ) (ds : List Datum) → Steady 
         steady-update span a (steady-node (steady-place m.span p)) (steady-number c (steady-node (steady-value n.span v)))
         (λ old b. steady-number_step a.scalar (λ x. binary op sign x b) old)
     steady-value span (kind.OffsetAssign' dir t a _ m p sign _ c n i) =
-        steady-update span a (steady-node (steady-place m.span p)) (steady-index sign c (steady-node (steady-value n.span i))) (λ old k. steady-move span dir t old k)
-    steady-value span (kind.Step' which dir a _ m p) = steady-step span which a (steady-node (steady-place m.span p)) (steady-number_step a.scalar (one_further dir))
+        steady-update span a (steady-node (steady-place m.span p)) (steady-index sign c (steady-node (steady-value n.span i)))
+        (λ old k. steady-move span dir t old k)
+    steady-value span (kind.Step' which dir a _ m p) = steady-step span which a (steady-node (steady-place m.span p))
+        (steady-number_step a.scalar (one_further dir))
     steady-value span (kind.PointerStep' which dir t a _ m p) =
         steady-step span which a (steady-node (steady-place m.span p)) (λ old. steady-move span dir t old (pos 1))
     steady-value span (kind.Call f r arguments) =
@@ -187,7 +205,8 @@ module _ (calls : Calls) (steady-calls : (f : ℕ) (ds : List Datum) → Steady 
         steady-both (steady-node (steady-place m.span p)) (steady-receive (pad_place r) B4)
         (λ t n. steady-do (steady-store span (arithmetic Unsigned) t (Number n)) (steady-give None))
     steady-value span (kind.ScratchpadOut' r _ m a) =
-        steady-with (steady-datum (steady-node (steady-value m.span a))) (λ d. steady-do (steady-send (pad_place r) B4 d) (steady-give None))
+        steady-with (steady-datum (steady-node (steady-value m.span a)))
+        (λ d. steady-do (steady-send (pad_place r) B4 d) (steady-give None))
 
     pub steady-values : (list : operands.Operands) → Steady (values calls list)
     steady-values operands.End = steady-give []

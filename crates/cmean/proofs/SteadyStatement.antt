@@ -1,5 +1,6 @@
 -- Statements are steady, where calls are; so a program's meaning is.
-use Rattle.std.proofs.Common.{ℕ, zero, suc, ◌+◌, ◌≤◌, ◌==◌, Bool, true, false, if◌then◌else◌, List, [], length, replicate, refl, arith, Option, Some, None, slice_get, ◌++◌}
+use Rattle.std.proofs.Common.{ℕ, zero, suc, ◌+◌, ◌≤◌, ◌==◌, Bool, true, false, if◌then◌else◌, List, [], length}
+use Rattle.std.proofs.Common.{replicate, refl, arith, Option, Some, None, slice_get, ◌++◌}
 use Rattle.std.specs.Option.{option_map}
 use Rattle.std.specs.Global.{Box}
 use Rattle.behaviour.specs.Ran.{Ran, Done, state_of, Turn, Again, Over, turned, turns}
@@ -26,9 +27,14 @@ use Rattle.cmean.specs.Datum.{Datum, zero_of}
 use Rattle.cmean.specs.State.{State, Run, give, with_leaves, leaves_of, ended_from}
 use Rattle.cmean.specs.Access.{set_leaf}
 use Rattle.cmean.specs.Expression.{Calls}
-use Rattle.cmean.specs.Statement.{Flow, Next, Broke, Continued, Returned, then_next, after_body, behind_body, loop, if_true, while_loop, do_loop, for_loop, after_switch, or_else, chosen, unset_leaves, set_at, set_step, zeros, value_in, operand_of, effect, condition, leaf_values, initialise, declare, declare_all, for_first, stmt_kind, run_items, run_switch, behind_case, behind_default}
+use Rattle.cmean.specs.Statement.{Flow, Next, Broke, Continued, Returned, then_next, after_body, behind_body, loop, if_true}
+use Rattle.cmean.specs.Statement.{while_loop, do_loop, for_loop, after_switch, or_else, chosen, unset_leaves, set_at, set_step}
+use Rattle.cmean.specs.Statement.{zeros, value_in, operand_of, effect, condition, leaf_values, initialise, declare, declare_all}
+use Rattle.cmean.specs.Statement.{for_first, stmt_kind, run_items, run_switch, behind_case, behind_default}
 use Rattle.cmean.specs.Meaning.{result_of, locals_of, called, call_of, calls_within, run_main}
-use Rattle.cmean.proofs.Steady.{Later, Steady, later-same, later-refl, later-trans, after, steady-give, steady-with, steady-do, steady-state, steady-change, steady-tick, steady-mark_now, steady-never, steady-sure, steady-halt, steady-node, steady-entered}
+use Rattle.cmean.proofs.Steady.{Later, Steady, later-same, later-refl, later-trans, after, steady-give, steady-with, steady-do}
+use Rattle.cmean.proofs.Steady.{steady-state, steady-change, steady-tick, steady-mark_now, steady-never, steady-sure, steady-halt}
+use Rattle.cmean.proofs.Steady.{steady-node, steady-entered}
 use Rattle.cmean.proofs.SteadyAccess.{steady-if}
 use Rattle.cmean.proofs.SteadyExpression.{steady-operand, steady-number, steady-truth, steady-value}
 
@@ -45,7 +51,8 @@ module _ {A : Type 0} {turn : Run (Turn A)} (steady : Steady turn) where
   turns-grow (suc n) b s =
       after s (turn b s) (λ t. turned t (turns n (turn b))) (steady.grows b s) (turned-grows (turns n (turn b)) (turns-grow n b))
 
-  turned-extends : (rest longer : State → Ran UndefinedStep State A) → ((s : State) → Extends Later (rest s) (longer s)) → (t : Turn A) (s : State)
+  turned-extends : (rest longer : State → Ran UndefinedStep State A) → ((s : State) → Extends Later (rest s) (longer s))
+      → (t : Turn A) (s : State)
       → Extends Later (turned t rest s) (turned t longer s)
   turned-extends rest longer extends Again s = extends s
   turned-extends rest longer extends (Over a) s = extends-same Later later-trans later-refl (Done a s)
@@ -70,7 +77,13 @@ steady-loop {turn = turn} steady = record {
 steady-then_next : {run rest : Run Flow} → Steady run → Steady rest → Steady (then_next run rest)
 steady-then_next {run = run} {rest = rest} first next = steady-with first (λ flow. onwards flow)
   where
-    onwards : (flow : Flow) → Steady (elim flow [ Next ↦ rest | Broke ↦ give Broke | Continued ↦ give Continued | Returned v ↦ give (Returned v) ])
+    onwards : (flow : Flow) → Steady (elim flow [
+      | Next ↦ rest
+      | Broke ↦ give Broke
+      | Continued ↦ give Continued
+      | Returned v ↦
+          give (Returned v)
+    ])
     onwards Next = next
     onwards Broke = steady-give Broke
     onwards Continued = steady-give Continued
@@ -91,7 +104,8 @@ steady-while c body = steady-loop (steady-if_true Next c (steady-with body (λ f
 steady-do_loop : {c : Run Bool} {body : Run Flow} → Steady body → Steady c → Steady (do_loop body c)
 steady-do_loop body c = steady-loop (steady-with body (steady-behind_body (steady-if_true Next c (steady-give Again))))
 
-steady-for : {c : Run Bool} {third : Run (Unit {0})} {body : Run Flow} → Steady c → Steady third → Steady body → Steady (for_loop c third body)
+steady-for : {c : Run Bool} {third : Run (Unit {0})} {body : Run Flow} → Steady c → Steady third → Steady body
+    → Steady (for_loop c third body)
 steady-for c third body = steady-loop (steady-if_true Next c (steady-with body (steady-behind_body (steady-do third (steady-give Again)))))
 
 -- what may be run is steady
@@ -180,7 +194,8 @@ module _ (calls : Calls) (steady-calls : (f : ℕ) (ds : List Datum) → Steady 
       steady-stmt (stmt.If' c _ m a) =
           steady-with (steady-truth (steady-value_in c.value)) (λ x. steady-if x (steady-entered (steady-stmt a)) (steady-give Next))
       steady-stmt (stmt.IfElse' c _ m a _ n b) =
-          steady-with (steady-truth (steady-value_in c.value)) (λ x. steady-if x (steady-entered (steady-stmt a)) (steady-entered (steady-stmt b)))
+          steady-with (steady-truth (steady-value_in c.value))
+          (λ x. steady-if x (steady-entered (steady-stmt a)) (steady-entered (steady-stmt b)))
       steady-stmt (stmt.While' c _ m a) = steady-while (steady-truth (steady-value_in c.value)) (steady-entered (steady-stmt a))
       steady-stmt (stmt.Do' _ m a c) = steady-do_loop (steady-entered (steady-stmt a)) (steady-truth (steady-value_in c.value))
       steady-stmt (stmt.For' f c third _ m a _) =
@@ -211,7 +226,8 @@ module _ (calls : Calls) (steady-calls : (f : ℕ) (ds : List Datum) → Steady 
 
       steady-case : (n : ℕ) (list : switch.SwitchItems) → Perhaps (behind_case calls shapes n list)
       steady-case n switch.End = tt
-      steady-case n (switch.Case' m v _ rest) = perhaps-if (v == n) (Some (run_switch calls shapes rest)) (behind_case calls shapes n rest) (steady-switch rest) (steady-case n rest)
+      steady-case n (switch.Case' m v _ rest) = perhaps-if (v == n) (Some (run_switch calls shapes rest))
+          (behind_case calls shapes n rest) (steady-switch rest) (steady-case n rest)
       steady-case n (switch.Default' m _ rest) = steady-case n rest
       steady-case n (switch.Statement' _ m a _ rest) = steady-case n rest
 

@@ -17,7 +17,8 @@ use Rattle.cprogram.specs.Scalar.{scalar_width}
 use Rattle.cmean.specs.declared.undefined.UndefinedCause.TheVariants.{OutsideArray, Unset, NullPointer, Misaligned, OutsideWindows}
 use Rattle.cmean.specs.Datum.{Spot, Datum, Number, Null, Plain, Address, received, written}
 use Rattle.cmean.specs.Pointer.{Step, Gives, Breaks, unless_ended}
-use Rattle.cmean.specs.State.{State, Run, give, then_with, with_state, change, then_do, receive, show, undefined, given, never, sure, is_alive, leaves_of, with_leaves}
+use Rattle.cmean.specs.State.{State, Run, give, then_with, with_state, change, then_do, receive, show}
+use Rattle.cmean.specs.State.{undefined, given, never, sure, is_alive, leaves_of, with_leaves}
 
 -- what a place is: what a pointer points to, or a register
 pub data Target : Type 0 where

@@ -1,13 +1,15 @@
 -- What a scalar of C holds while a program runs (C99 6.2.5), and what conversions and operators make of numbers (C99 6.3, 6.5). That
 -- results wrap, what a division by 0 gives and that a shift counts modulo 32 are this project's own choices.
-use Rattle.std.specs.Prelude.{ℕ, zero, suc, ◌/◌, ◌+◌, ◌-◌, ◌*◌, ◌%◌, ◌^◌, ◌==◌, nat_lt, nat_le, Bool, true, false, not, if◌then◌else◌, ℤ, pos, Option, Some, None, bit_and, bit_or, bit_xor}
+use Rattle.std.specs.Prelude.{ℕ, zero, suc, ◌/◌, ◌+◌, ◌-◌, ◌*◌, ◌%◌, ◌^◌, ◌==◌, nat_lt, nat_le, Bool, true, false, not}
+use Rattle.std.specs.Prelude.{if◌then◌else◌, ℤ, pos, Option, Some, None, bit_and, bit_or, bit_xor}
 use Rattle.prunum.specs.declared.width.Width.{Width}
 use Rattle.prunum.specs.declared.width.Width.TheVariants.{B4}
 use Rattle.prunum.specs.Number.{wrap, wrap_signed, sext, quot_u, rem_u, quot_s, rem_s, shl, shr_u, shr_s}
 use Rattle.csyn.specs.declared.specifiers.Sign.{Sign}
 use Rattle.csyn.specs.declared.specifiers.Sign.TheVariants.{Signed, Unsigned}
 use Rattle.csyn.specs.declared.operator.BinaryOperator.{BinaryOperator}
-use Rattle.csyn.specs.declared.operator.BinaryOperator.TheVariants.{Multiply, Divide, Remainder, Add, Subtract, ShiftLeft, ShiftRight, BitAnd, BitXor, BitOr}
+use Rattle.csyn.specs.declared.operator.BinaryOperator.TheVariants.{Multiply, Divide, Remainder, Add, Subtract, ShiftLeft}
+use Rattle.csyn.specs.declared.operator.BinaryOperator.TheVariants.{ShiftRight, BitAnd, BitXor, BitOr}
 use Rattle.csyn.specs.declared.operator.ComparisonOperator.{ComparisonOperator}
 use Rattle.csyn.specs.declared.operator.ComparisonOperator.TheVariants.{Less, Greater, LessEqual, GreaterEqual, Equal, NotEqual}
 use Rattle.cprogram.specs.declared.scalar.Integer.{Integer}

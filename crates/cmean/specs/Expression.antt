@@ -25,9 +25,11 @@ use Rattle.cprogram.specs.declared.value.PlaceKind as place
 use Rattle.cprogram.specs.declared.value.ValueKind as kind
 use Rattle.cprogram.specs.declared.value.Operands as operands
 use Rattle.cmean.specs.declared.undefined.UndefinedCause.TheVariants.{NoValue}
-use Rattle.cmean.specs.Datum.{Datum, Number, Plain, Address, convert, extended, is_true, truth_number, unary, binary, comparison, signed_value, leftmost_bit}
+use Rattle.cmean.specs.Datum.{Datum, Number, Plain, Address, convert, extended, is_true, truth_number}
+use Rattle.cmean.specs.Datum.{unary, binary, comparison, signed_value, leftmost_bit}
 use Rattle.cmean.specs.Pointer.{Step, moved, moved_by, member, decayed, difference, compare_pointers}
-use Rattle.cmean.specs.State.{State, Run, give, with_state, then_with, then_do, node, tick, ticks, show, receive, undefined, given, sure, never, halt, is_alive}
+use Rattle.cmean.specs.State.{State, Run, give, with_state, then_with, then_do, node, tick, ticks, show}
+use Rattle.cmean.specs.State.{receive, undefined, given, sure, never, halt, is_alive}
 use Rattle.cmean.specs.Access.{Target, Pointed, OfRegister, load, store, send, pad_place}
 
 -- ---- values on the way

@@ -14,7 +14,8 @@ use Rattle.cprogram.specs.declared.program.Program.{Program}
 use Rattle.behaviour.specs.Ran.{Ran}
 use Rattle.cmean.specs.declared.undefined.UndefinedStep.{UndefinedStep}
 use Rattle.cmean.specs.Datum.{zero_of, Datum, Number, Null, Plain, Address}
-use Rattle.cmean.specs.State.{State, Run, Object, Leaves, give, change, with_state, then_with, then_do, entered, never, halt, unset, ended_from}
+use Rattle.cmean.specs.State.{State, Run, Object, Leaves, give, change, with_state, then_with}
+use Rattle.cmean.specs.State.{then_do, entered, never, halt, unset, ended_from}
 use Rattle.cmean.specs.Expression.{Valued, Calls}
 use Rattle.cmean.specs.Statement.{Flow, Returned, run_items}
 

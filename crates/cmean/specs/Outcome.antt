@@ -1,5 +1,6 @@
 -- What the meaning shows and how it stands, and what a core's trace owes to it.
-use Rattle.std.specs.Prelude.{◌≡◌, ◌↔◌, ℕ, suc, ◌+◌, ◌*◌, ◌≤◌, ◌<◌, Bool, IsTrue, List, [], ◌∷◌, ◌++◌, length, map, Option, Some, None, slice_get}
+use Rattle.std.specs.Prelude.{◌≡◌, ◌↔◌, ℕ, suc, ◌+◌, ◌*◌, ◌≤◌, ◌<◌, Bool, IsTrue, List, [], ◌∷◌}
+use Rattle.std.specs.Prelude.{◌++◌, length, map, Option, Some, None, slice_get}
 use Rattle.std.specs.List.{filter_map}
 use Rattle.csyn.specs.declared.span.Span.{Span}
 use Rattle.prutrace.specs.declared.event.Event.{Event}

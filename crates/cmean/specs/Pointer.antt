@@ -1,7 +1,8 @@
 -- Arithmetic and comparisons of pointers (C99 6.5.6, 6.5.8, 6.5.9), and where C leaves them undefined. A plain pointer is null or an
 -- element of an array of an object; a volatile pointer is an address, which wraps at 32 bits. Where several causes apply, the first
 -- of them in the order of `UndefinedCause` is named.
-use Rattle.std.specs.Prelude.{ℕ, zero, suc, ◌+◌, ◌-◌, ◌*◌, ◌/◌, ◌%◌, ◌^◌, ◌==◌, nat_lt, nat_le, Bool, true, false, ◌&&◌, ◌||◌, if◌then◌else◌, ℤ, pos, ◌+ℤ◌, ◌-ℤ◌, ◌*ℤ◌, neg_ℤ, unsigned_abs, Option, Some, None}
+use Rattle.std.specs.Prelude.{ℕ, zero, suc, ◌+◌, ◌-◌, ◌*◌, ◌/◌, ◌%◌, ◌^◌, ◌==◌, nat_lt, nat_le, Bool, true, false, ◌&&◌, ◌||◌}
+use Rattle.std.specs.Prelude.{if◌then◌else◌, ℤ, pos, ◌+ℤ◌, ◌-ℤ◌, ◌*ℤ◌, neg_ℤ, unsigned_abs, Option, Some, None}
 use Rattle.prunum.specs.declared.width.Width.TheVariants.{B4}
 use Rattle.prunum.specs.Number.{wrap, wrap_signed, shr_s}
 use Rattle.csyn.specs.declared.operator.ComparisonOperator.{ComparisonOperator}

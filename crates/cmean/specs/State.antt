@@ -1,6 +1,7 @@
 -- What a run of C keeps, and the few acts that it is made of. A run counts source steps: each node's own step is the last of its acts.
 -- An act that another can see, and a step that C leaves undefined, carry the number of the next step.
-use Rattle.std.specs.Prelude.{ℕ, zero, suc, nat_lt, Bool, true, false, if◌then◌else◌, List, [], ◌∷◌, ◌++◌, map, replicate, Option, Some, None, slice_get, slice_set}
+use Rattle.std.specs.Prelude.{ℕ, zero, suc, nat_lt, Bool, true, false, if◌then◌else◌, List, [], ◌∷◌, ◌++◌}
+use Rattle.std.specs.Prelude.{map, replicate, Option, Some, None, slice_get, slice_set}
 use Rattle.prunum.specs.declared.width.Width.{Width}
 use Rattle.prunum.specs.Number.{wrap}
 use Rattle.csyn.specs.declared.span.Span.{Span}

@@ -19,7 +19,8 @@ use Rattle.cprogram.specs.declared.statement.Items as items
 use Rattle.cprogram.specs.declared.statement.SwitchItems as switch
 use Rattle.behaviour.specs.Ran.{Turn, Again, Over, turns}
 use Rattle.cmean.specs.Datum.{Datum, zero_of}
-use Rattle.cmean.specs.State.{Run, give, change, with_state, then_with, then_do, node, entered, tick, mark_now, sure, leaves_of, with_leaves}
+use Rattle.cmean.specs.State.{Run, give, change, with_state, then_with, then_do, node, entered}
+use Rattle.cmean.specs.State.{tick, mark_now, sure, leaves_of, with_leaves}
 use Rattle.cmean.specs.Access.{set_leaf}
 use Rattle.cmean.specs.Expression.{Valued, Calls, operand, number, truth, value_kind}
 

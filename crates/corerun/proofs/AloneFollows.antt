@@ -15,7 +15,8 @@ use Rattle.corestep.specs.declared.out.Stop.TheVariants.{Going}
 use Rattle.corestep.specs.Core.{State}
 use Rattle.corestep.specs.Effect.{Given, Effect, effect}
 use Rattle.corestep.specs.Given.{given_by}
-use Rattle.corestep.specs.Step.{Stepped, istep, step_by, stepped, given_at, inst_at, notes_at, after_effect, marks_before, marks_behind, value_of_kind}
+use Rattle.corestep.specs.Step.{Stepped, istep, step_by, stepped, given_at, inst_at, notes_at}
+use Rattle.corestep.specs.Step.{after_effect, marks_before, marks_behind, value_of_kind}
 use Rattle.corerun.specs.Values.{Taken, taken_by, values_of}
 use Rattle.corerun.specs.Solo.{Alone, Went, alone_step, step_standing, step_at, step_with, after_step}
 use Rattle.corerun.specs.Fits.{InputFits}

@@ -1,5 +1,7 @@
 -- A word keeps the sizes and ranges of what its core holds, stores bytes, and shows few events.
-use Rattle.std.proofs.Common.{◌≡◌, ℕ, zero, suc, ◌+◌, ◌-◌, ◌*◌, ◌/◌, ◌%◌, ◌^◌, ◌<◌, ◌≤◌, Bool, true, false, cond, List, [], ◌∷◌, ◌++◌, length, take, drop, map, Option, Some, None, refl, sym, ap, subst, ◌∙◌, arith, length-append, length-drop}
+use Rattle.std.proofs.Common.{◌≡◌, ℕ, zero, suc, ◌+◌, ◌-◌, ◌*◌, ◌/◌, ◌%◌, ◌^◌, ◌<◌, ◌≤◌, Bool, true, false, cond, List, [], ◌∷◌}
+use Rattle.std.proofs.Common.{◌++◌, length, take, drop, map, Option, Some, None, refl, sym, ap, subst, ◌∙◌, arith, length-append}
+use Rattle.std.proofs.Common.{length-drop}
 use Rattle.std.specs.Prelude.{◌==◌, nat_lt, nat_le, option_map, option_to_list}
 use Rattle.std.specs.List.{AllByRecursion, flat_map}
 use Rattle.std.specs.Int.{bytes_low_first, byte_at}
@@ -27,12 +29,14 @@ use Rattle.corestep.specs.declared.goes.Goes.{Goes}
 use Rattle.corestep.specs.declared.goes.Goes.TheVariants.{Behind}
 use Rattle.corestep.specs.declared.out.Input.{Input}
 use Rattle.corestep.specs.Core.{State}
-use Rattle.corestep.specs.Fields.{bytes_at, with_bytes, with_field, place_of, part_length, first_byte, field_reads, operand_reads, field_writes, register, given_to_r31}
+use Rattle.corestep.specs.Fields.{bytes_at, with_bytes, with_field, place_of, part_length, first_byte}
+use Rattle.corestep.specs.Fields.{field_reads, operand_reads, field_writes, register, given_to_r31}
 use Rattle.corestep.specs.Memory.{address_of, is_private, ram_after}
 use Rattle.corestep.specs.Pieces.{Piece, pieces, access_event, access_events, bank_number, pad_events}
 use Rattle.corestep.specs.Effect.{Given, Effect, effect, shows, writes, stored, access_place, numbers_from, jump_reads}
 use Rattle.corestep.specs.Given.{given_by}
-use Rattle.corestep.specs.Step.{Stepped, stepped, istep, step_by, given_at, inst_at, notes_at, after_effect, marks_before, marks_behind, value_of_kind}
+use Rattle.corestep.specs.Step.{Stepped, stepped, istep, step_by, given_at, inst_at, notes_at}
+use Rattle.corestep.specs.Step.{after_effect, marks_before, marks_behind, value_of_kind}
 use Rattle.corerun.specs.Fits.{AreBytes, InputFits, CoreFits, StepFits}
 
 -- ---- lists of bytes
@@ -75,12 +79,20 @@ pub record Sized (n : ℕ) (bytes : List ℕ) : Type 0 where
   pub all : AreBytes bytes
 
 -- a range of it is written
-pub with_fits : (n at : ℕ) (bytes list : List ℕ) → at + length bytes ≤ n → AreBytes bytes → Sized n list → Sized n (with_bytes at bytes list)
+pub with_fits : (n at : ℕ) (bytes list : List ℕ) → at + length bytes ≤ n → AreBytes bytes → Sized n list
+    → Sized n (with_bytes at bytes list)
 with_fits n at bytes list h all fits =
     let rest : List ℕ = drop (at + length bytes) list in
     let size : length list ≡ n = fits.size in
     record {
-      size = omega (arith, length-append (take at list) (bytes ++ rest), length-append bytes rest, length-take-le at list (omega arith), length-drop (at + length bytes) list);
+      size = omega (
+        arith,
+        length-append (take at list) (bytes ++ rest),
+        length-append bytes rest,
+        length-take-le at list
+            (omega arith),
+        length-drop (at + length bytes) list,
+      );
       all = all_append (λ b. b < 256) (take at list) (bytes ++ rest) (all_take (λ b. b < 256) at list fits.all)
           (all_append (λ b. b < 256) bytes rest all (all_drop (λ b. b < 256) (at + length bytes) list fits.all));
     }
@@ -157,7 +169,8 @@ jump_few outer (jump.Field f) = reads_few outer f
 jump_few outer (jump.Word n) = omega arith
 
 writes_few : (d : Field) (n : ℕ) (registers : List ℕ) → length (field_writes d n registers) ≤ 1
-writes_few d n registers = two_few (d.reg == 30) (d.reg == 31) (Write Reg30 B4 (register (with_field d n registers) 30)) (Write Reg31 B4 (given_to_r31 d.part n))
+writes_few d n registers = two_few (d.reg == 30) (d.reg == 31) (Write Reg30 B4 (register (with_field d n registers) 30))
+    (Write Reg31 B4 (given_to_r31 d.part n))
 
 length-pads : (store : Bool) (bank reg : ℕ) (values : List ℕ) → length (pad_events store bank reg values) ≡ length values
 length-pads store bank reg [] = refl
@@ -282,7 +295,8 @@ module _ (registers ram : List ℕ) (core : Sized 124 registers) (own : Sized 0x
         let addr : ℕ = address_of registers a in
         let range : Sized a.len (bytes_at (access_place a) a.len registers) =
         range_fits 124 (access_place a) a.len registers (omega (arith, a.below)) core in
-        stored_by (is_private addr (length (bytes_at (access_place a) a.len registers))) addr (bytes_at (access_place a) a.len registers) refl
+        stored_by (is_private addr (length (bytes_at (access_place a) a.len registers))) addr
+        (bytes_at (access_place a) a.len registers) refl
         range.all
 
 -- ---- its events

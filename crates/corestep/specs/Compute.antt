@@ -1,5 +1,6 @@
 -- What instructions compute, and when branches are taken: SPRUIJ2. Sources are numbers of 32 bits, compared without a sign.
-use Rattle.std.specs.Prelude.{ℕ, zero, suc, ◌+◌, ◌-◌, ◌%◌, ◌^◌, ◌==◌, min, max, Bool, nat_lt, nat_le, not, if◌then◌else◌, bit_and, bit_or, bit_xor}
+use Rattle.std.specs.Prelude.{ℕ, zero, suc, ◌+◌, ◌-◌, ◌%◌, ◌^◌, ◌==◌, min, max, Bool, nat_lt, nat_le}
+use Rattle.std.specs.Prelude.{not, if◌then◌else◌, bit_and, bit_or, bit_xor}
 use Rattle.std.specs.Int.{w32, bit_at, bit_not}
 use Rattle.prunum.specs.Number.{shl, shr_u}
 use Rattle.isa.specs.declared.control.Condition.{Condition}

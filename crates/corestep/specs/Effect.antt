@@ -14,7 +14,8 @@ use Rattle.isa.specs.declared.inst.Inst.TheVariants as inst
 use Rattle.isa.specs.declared.transfer.Transfer.{Transfer}
 use Rattle.corestep.specs.declared.goes.Goes.{Goes}
 use Rattle.corestep.specs.declared.goes.Goes.TheVariants.{Behind, Number, Target, Around, Nowhere}
-use Rattle.corestep.specs.Fields.{bytes_at, register, field_value, operand_value, field_reads, operand_reads, with_field, field_writes, with_bytes}
+use Rattle.corestep.specs.Fields.{bytes_at, register, field_value, operand_value, field_reads}
+use Rattle.corestep.specs.Fields.{operand_reads, with_field, field_writes, with_bytes}
 use Rattle.corestep.specs.Memory.{address_of, is_private, ram_after}
 use Rattle.corestep.specs.Pieces.{access_events, bank_number, pad_events}
 use Rattle.corestep.specs.Compute.{computed, leftmost, is_taken}

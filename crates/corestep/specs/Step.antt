@@ -1,5 +1,6 @@
 -- One word of a core.
-use Rattle.std.specs.Prelude.{ℕ, ◌+◌, ◌-◌, ◌%◌, ◌^◌, ◌==◌, List, [], ◌++◌, filter, find, slice_get, Option, Some, None, option_and_then, option_map, option_to_list, true, false}
+use Rattle.std.specs.Prelude.{ℕ, ◌+◌, ◌-◌, ◌%◌, ◌^◌, ◌==◌, List, [], ◌++◌, filter, find, slice_get, Option, Some}
+use Rattle.std.specs.Prelude.{None, option_and_then, option_map, option_to_list, true, false}
 use Rattle.prutrace.specs.declared.event.Event.{Event}
 use Rattle.prutrace.specs.declared.event.Event.TheVariants as events
 use Rattle.isa.specs.declared.inst.Inst.{Inst}

@@ -1,5 +1,6 @@
 -- What the parser answers, from what it knows at each exit.
-use Rattle.std.proofs.Common.{◌≡◌, ◌+◌, ◌-◌, ◌<◌, ℕ, zero, suc, List, [], ◌∷◌, length, get_or, Option, Some, None, sym, ap, refl, ◌∙◌, arith, length-append}
+use Rattle.std.proofs.Common.{◌≡◌, ◌+◌, ◌-◌, ◌<◌, ℕ, zero, suc, List, [], ◌∷◌, length, get_or, Option}
+use Rattle.std.proofs.Common.{Some, None, sym, ap, refl, ◌∙◌, arith, length-append}
 use Rattle.std.specs.Prelude.{slice_get}
 use Rattle.std.specs.Option.{option_map}
 use Rattle.csyn.specs.declared.token.Token.{Token}
@@ -60,8 +61,10 @@ module _ (tokens : List Token) (place : ℕ) (token : Token) (kind : Kind) (caus
       faults-agree tokens (λ a b text _. absurd (text-stands tokens a place text first)) token.span span cause other refused-fault fault
 
 -- what the levels say of the productions of this source
-pub deep-found : (written : Written) (tokens : List Token) (all shown : List Entry) (found : Option ℕ) → IsText written tokens → all ≡ entries 0 written
-    → shown ≡ all → ((w : Written) → IsProper w → shown ≡ entries 0 w → found ≡ slice_get (deep 0 0 w) 0) → slice_get (deep 0 0 written) 0 ≡ found
+pub deep-found : (written : Written) (tokens : List Token) (all shown : List Entry) (found : Option ℕ) → IsText written tokens
+    → all ≡ entries 0 written
+    → shown ≡ all → ((w : Written) → IsProper w → shown ≡ entries 0 w → found ≡ slice_get (deep 0 0 w) 0)
+    → slice_get (deep 0 0 written) 0 ≡ found
 deep-found written tokens all shown found text are same says = sym (says written text.proper (same ∙ are))
 
 pub deep-place : (tokens : List Token) (written : Written) (all shown : List Entry) (found : Option ℕ) (place : ℕ) → IsText written tokens
@@ -71,7 +74,8 @@ deep-place tokens written all shown found place text are same says is =
     deep-within tokens written place text (deep-found written tokens all shown found text are same says ∙ is)
 
 -- only units have the bare form of units
-bare-of : (v : Value) (bare : units.Units) → bare_value v ≡ value.Units bare → (u : units.Units) × (v ≡ value.Units u) × (bare_units u ≡ bare)
+bare-of : (v : Value) (bare : units.Units) → bare_value v ≡ value.Units bare
+    → (u : units.Units) × (v ≡ value.Units u) × (bare_units u ≡ bare)
 bare-of (value.Units u) bare e = (u, refl, cc)
 bare-of _ bare e = absurd (cc)
 
@@ -84,7 +88,8 @@ units-by (Some v) all bare makes units-of =
     ap bare_units (units-of found.0 (ap Some found.1)) ∙ found.2
 
 -- a source
-module _ (tokens : List Token) (written : Written) (text : IsText written tokens) (only : (other : Written) → IsText other tokens → other ≡ written) where
+module _ (tokens : List Token) (written : Written) (text : IsText written tokens)
+    (only : (other : Written) → IsText other tokens → other ≡ written) where
   one : (a b : Written) → IsText a tokens → IsText b tokens → a ≡ b
   one a b first second = only a first ∙ sym (only b second)
 
@@ -110,8 +115,10 @@ module _ (tokens : List Token) (written : Written) (text : IsText written tokens
   -- with a tree
   module _ (made : Option Value) (count last : ℕ) (end_token : Token) (all : units.Units) (bare : units.Units)
       (shallow : slice_get (deep 0 0 written) 0 ≡ None)
-      (has : tree.value 0 written ≡ Some (value.Units bare)) (makes : option_map bare_value made ≡ Some (value.Units bare)) (counts : count ≡ nodes written)
-      (units-of : (u : units.Units) → made ≡ Some (value.Units u) → all ≡ u) (several : last + 1 ≡ length tokens) (is : end_token ≡ get_or tokens last end_token) where
+      (has : tree.value 0 written ≡ Some (value.Units bare)) (makes : option_map bare_value made ≡ Some (value.Units bare))
+      (counts : count ≡ nodes written)
+      (units-of : (u : units.Units) → made ≡ Some (value.Units u) → all ≡ u) (several : last + 1 ≡ length tokens)
+      (is : end_token ≡ get_or tokens last end_token) where
     pub bare-all : bare_units all ≡ bare
     bare-all = units-by made all bare makes units-of
 

@@ -1,5 +1,6 @@
 -- The nodes at level 257 stand in the order of their places.
-use Rattle.std.specs.Prelude.{◌≡◌, ℕ, ◌+◌, ◌≤◌, Bool, true, false, nat_eq, cond, List, [], ◌∷◌, ◌++◌, length, All, Contains, slice_get, Some, None, refl}
+use Rattle.std.specs.Prelude.{◌≡◌, ℕ, ◌+◌, ◌≤◌, Bool, true, false, nat_eq, cond, List, [], ◌∷◌, ◌++◌}
+use Rattle.std.specs.Prelude.{length, All, Contains, slice_get, Some, None, refl}
 use Rattle.std.proofs.Common.{arith, sym, ap, subst, zero, suc, length-append}
 use Rattle.std.proofs.lemmas.List.Elements.{All-contains}
 use Rattle.cgrammar.specs.Grammar.{is_node}
@@ -16,7 +17,8 @@ unfolding Between
 between-lower low other high [] less between = omega arith
 between-lower low other high (place ∷ places) less between = let h = between.0 in (omega arith, between.1)
 
-between-append : (low middle high : ℕ) (front back : List ℕ) → Between low middle front → Between middle high back → Between low high (front ++ back)
+between-append : (low middle high : ℕ) (front back : List ℕ) → Between low middle front → Between middle high back
+    → Between low high (front ++ back)
 unfolding Between
 between-append low middle high [] back first second = between-lower low middle high back first second
 between-append low middle high (place ∷ front) back first second = (first.0, between-append place middle high front back first.1 second)
@@ -38,14 +40,16 @@ mutual
   pub deep-between : (level at : ℕ) (written : Written) → Between at (at + length (spell written)) (deep level at written)
   deep-between level at (leaf token) = omega arith
   deep-between level at (node production parts) =
-      between-append at at (at + length (spells parts)) (deep_here (is_node production) level at) (deep_of (below (is_node production) level) at parts)
+      between-append at at (at + length (spells parts)) (deep_here (is_node production) level at)
+      (deep_of (below (is_node production) level) at parts)
       (deep-here-between (is_node production) level at) (deep-of-between (below (is_node production) level) at parts)
 
   pub deep-of-between : (level at : ℕ) (parts : Forest) → Between at (at + length (spells parts)) (deep_of level at parts)
   deep-of-between level at none = omega arith
   deep-of-between level at (more written parts) =
       let behind = at + length (spell written) in
-      let ends : behind + length (spells parts) ≡ at + length (spell written ++ spells parts) = omega (arith, length-append (spell written) (spells parts)) in
+      let ends : behind + length (spells parts) ≡ at + length (spell written ++ spells parts) =
+      omega (arith, length-append (spell written) (spells parts)) in
       subst (λ high. Between at high (deep level at written ++ deep_of level behind parts)) ends
       (between-append at behind (behind + length (spells parts)) (deep level at written) (deep_of level behind parts)
       (deep-between level at written) (deep-of-between level behind parts))
@@ -68,7 +72,8 @@ least-first : (low high : ℕ) (all : List ℕ) (place : ℕ) → Between low hi
     → (others : List ℕ) × (all ≡ place ∷ others)
 least-first low high [] place between contains least = let h = contains.1 in absurd (omega arith)
 least-first low high (first ∷ others) place between contains least =
-    let more : first ≤ place = All-contains (λ other. first ≤ other) (first ∷ others) place (first-least low high first others between) contains in
+    let more : first ≤ place = All-contains (λ other. first ≤ other) (first ∷ others) place
+    (first-least low high first others between) contains in
     let less : place ≤ first = least 0 0 (omega arith) in
     let same : first ≡ place = omega arith in
     (others, ap (λ n. n ∷ others) same)

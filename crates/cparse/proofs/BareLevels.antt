@@ -3,7 +3,9 @@ use Rattle.std.proofs.Common.{◌≡◌, ◌+◌, ℕ, Option, Some, None, ap, r
 use Rattle.std.specs.Prelude.{max}
 use Rattle.std.specs.Global.{Box}
 use Rattle.csyn.specs.declared.expression.Expr.{Expr}
-use Rattle.csyn.specs.declared.expression.ExprKind.{ExprKind, Name, Number, Character, Index', CallFunction, Call', Member', Arrow', Postfix', Prefix', SizeofExpression', SizeofType, Cast', Binary', Comparison', Logical', Conditional', Assign', AssignWith', Comma'}
+use Rattle.csyn.specs.declared.expression.ExprKind.{ExprKind, Name, Number, Character, Index', CallFunction, Call', Member', Arrow'}
+use Rattle.csyn.specs.declared.expression.ExprKind.{Postfix', Prefix', SizeofExpression', SizeofType, Cast', Binary', Comparison'}
+use Rattle.csyn.specs.declared.expression.ExprKind.{Logical', Conditional', Assign', AssignWith', Comma'}
 use Rattle.csyn.specs.declared.expression.Exprs as exprs
 use Rattle.csyn.specs.declared.declaration.Declarators as declarators
 use Rattle.csyn.specs.declared.declaration.Members as members
@@ -16,7 +18,8 @@ use Rattle.csyn.specs.declared.declaration.Parameters.{Parameters}
 use Rattle.csyn.specs.declared.declaration.Parameters.TheVariants as parameters
 use Rattle.csyn.specs.declared.statement.ForFirst.{ForFirst}
 use Rattle.csyn.specs.declared.statement.ForFirst.TheVariants as first
-use Rattle.csyn.specs.declared.statement.StmtKind.{StmtKind, Block, Expression, If', IfElse', While', Do', For', Switch, Break, Continue, Return, Region}
+use Rattle.csyn.specs.declared.statement.StmtKind.{StmtKind, Block, Expression, If', IfElse', While', Do', For'}
+use Rattle.csyn.specs.declared.statement.StmtKind.{Switch, Break, Continue, Return, Region}
 use Rattle.csyn.specs.declared.statement.Items as items
 use Rattle.csyn.specs.declared.statement.LabelKind.{LabelKind}
 use Rattle.csyn.specs.declared.statement.LabelKind.TheVariants as label
@@ -81,14 +84,17 @@ mutual
   inits-bare inits.End = refl
   inits-bare (inits.More' _ i _ rest) = both (init-bare i) (inits-bare rest)
 
-option-init-bare : (o : Option (Box init.Init)) → levels.option_init_levels (bare.option_bare bare.bare_init o) ≡ levels.option_init_levels o
+option-init-bare : (o : Option (Box init.Init)) → levels.option_init_levels (bare.option_bare bare.bare_init o)
+    ≡ levels.option_init_levels o
 option-init-bare None = refl
 option-init-bare (Some i) = init-bare i.value
 
-objects-bare : (o : objects.InitDeclarators) → levels.init_declarators_levels (bare.bare_init_declarators o) ≡ levels.init_declarators_levels o
+objects-bare : (o : objects.InitDeclarators) → levels.init_declarators_levels (bare.bare_init_declarators o)
+    ≡ levels.init_declarators_levels o
 objects-bare objects.End = refl
 objects-bare (objects.More' d _ rest) =
-    both (both (exprs-bare ((d.value).declarator).lengths) (both (option-bare (d.value).location) (option-init-bare (d.value).init))) (objects-bare rest)
+    both (both (exprs-bare ((d.value).declarator).lengths) (both (option-bare (d.value).location)
+    (option-init-bare (d.value).init))) (objects-bare rest)
 
 local-bare : (o : LocalObject) → levels.local_levels (bare.bare_local o) ≡ levels.local_levels o
 local-bare o = one-more (objects-bare (o.object).declarators)

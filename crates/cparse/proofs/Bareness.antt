@@ -53,7 +53,8 @@ mutual
       made-bare p (number + nodes_of parts) (spells parts) _
       (have-values number (template p) parts proper (used-parts p used)) (values-bare number (template p) parts proper (used-parts p used))
 
-  values-bare : (number : ℕ) (pieces : List Piece) (parts : Forest) → Match pieces parts → all_used (shapes pieces) ≡ true → AreBare (values number parts)
+  values-bare : (number : ℕ) (pieces : List Piece) (parts : Forest) → Match pieces parts → all_used (shapes pieces) ≡ true
+      → AreBare (values number parts)
   values-bare number [] none m u = refl
   values-bare number [] (more _ _) m u = absurd m
   values-bare number (piece ∷ pieces) none m u = absurd m
@@ -62,7 +63,8 @@ mutual
   values-bare number (part _ ∷ pieces) (more (leaf _) parts) m u = absurd m.0
   values-bare number (part c ∷ pieces) (more (node q own) parts) m u =
       in-front-bare (value_of number (node q own)) (values (number + nodes (node q own)) parts)
-      (value-bare number (node q own) m.1 (ap is_used (under-shape (home q) c m.0) ∙ first_so (is_used (shape c)) (all_used (shapes pieces)) u))
+      (value-bare number (node q own) m.1 (ap is_used (under-shape (home q) c m.0)
+      ∙ first_so (is_used (shape c)) (all_used (shapes pieces)) u))
       (values-bare (number + nodes (node q own)) pieces parts m.3 (second_so (is_used (shape c)) (all_used (shapes pieces)) u))
 
 -- each source has units without pointers

@@ -1,5 +1,6 @@
 -- The productions of a source, one after another, make its value.
-use Rattle.std.proofs.Common.{◌≡◌, ◌+◌, ◌-◌, ℕ, List, [], ◌∷◌, ◌++◌, reverse, take, drop, length, Option, Some, None, sym, ap, subst, refl, ◌∙◌, cond, arith, append_assoc, length-append, add_assoc, add-zero, zero-add}
+use Rattle.std.proofs.Common.{◌≡◌, ◌+◌, ◌-◌, ℕ, List, [], ◌∷◌, ◌++◌, reverse, take, drop, length, Option, Some, None, sym, ap}
+use Rattle.std.proofs.Common.{subst, refl, ◌∙◌, cond, arith, append_assoc, length-append, add_assoc, add-zero, zero-add}
 use Rattle.std.proofs.lemmas.List.{append-nil, length-reverse}
 use Rattle.std.proofs.Math.Numerals.{add-one}
 use Rattle.std.proofs.Math.Seq.{take-append_seam}
@@ -48,7 +49,8 @@ pub record Front (first : Option Value) (others : Option (List Value)) (all : Li
   pub are-others : others ≡ Some values
   pub are-all : all ≡ value ∷ values
 
-front-of : (first : Option Value) (others : Option (List Value)) (all : List Value) → in_front first others ≡ Some all → Front first others all
+front-of : (first : Option Value) (others : Option (List Value)) (all : List Value) → in_front first others ≡ Some all
+    → Front first others all
 front-of None others all e = absurd (cc)
 front-of (Some v) None all e = absurd (cc)
 front-of (Some v) (Some vs) all e = record { value = v; values = vs; is-first = refl; are-others = refl; are-all = cc }
@@ -59,13 +61,15 @@ made-of production place None v e = absurd (cc)
 made-of production place (Some us) v e = (us, refl, e)
 
 -- one production, of which these are the parts
-built-one : (tokens : List Token) (entry : Entry) (n : ℕ) (us vs : List Value) (v : Value) → length us ≡ parts_among (template entry.production)
+built-one : (tokens : List Token) (entry : Entry) (n : ℕ) (us vs : List Value) (v : Value)
+    → length us ≡ parts_among (template entry.production)
     → make entry.production (place_in tokens n entry) us ≡ Some v
     → build_one tokens (built (reverse_aux us vs) n) entry ≡ Some (built (v ∷ vs) (n + cond (is_node entry.production) 1 0))
 built-one tokens entry n us vs v count makes =
     let parts : reverse (take (parts_among (template entry.production)) (reverse_aux us vs)) ≡ us =
     ap (λ k. reverse (take k (reverse_aux us vs))) (sym count) ∙ taken us vs in
-    let rest : drop (parts_among (template entry.production)) (reverse_aux us vs) ≡ vs = ap (λ k. drop k (reverse_aux us vs)) (sym count) ∙ left us vs in
+    let rest : drop (parts_among (template entry.production)) (reverse_aux us vs) ≡ vs =
+    ap (λ k. drop k (reverse_aux us vs)) (sym count) ∙ left us vs in
     ap (λ xs. with_value (make entry.production (place_in tokens n entry) xs) (built (reverse_aux us vs) n) entry) parts
     ∙ ap (λ m. with_value m (built (reverse_aux us vs) n) entry) makes
     ∙ ap (λ xs. Some (built (v ∷ xs) (n + cond (is_node entry.production) 1 0))) rest
@@ -82,7 +86,8 @@ pub record Builds (tokens : List Token) (pieces : List Piece) (at : ℕ) (parts 
   pub builds : (vs : List Value) (es : List Entry)
       → build tokens (entries_of at parts ++ es) (built vs n) ≡ build tokens es (built (reverse_aux us vs) (n + nodes_of parts))
 
-pub build-parts : (tokens : List Token) (pieces : List Piece) (parts : Forest) (before behind : List Token) (n : ℕ) (us : List Value) → Match pieces parts
+pub build-parts : (tokens : List Token) (pieces : List Piece) (parts : Forest) (before behind : List Token) (n : ℕ)
+    (us : List Value) → Match pieces parts
     → tokens ≡ before ++ (spells parts ++ behind) → values n parts ≡ Some us → Builds tokens pieces (length before) parts n us
 unfolding Match IsProper values value nodes nodes_of entries entries_of parts_among
 build-parts tokens [] none before behind n us proper spelled e =
@@ -95,7 +100,8 @@ build-parts tokens (part class ∷ pieces) none before behind n us proper spelle
 build-parts tokens (token terminal ∷ pieces) (more (node production own) parts) before behind n us proper spelled e = elim (proper.0) [ ]
 build-parts tokens (part class ∷ pieces) (more (leaf t) parts) before behind n us proper spelled e = elim (proper.0) [ ]
 build-parts tokens (token terminal ∷ pieces) (more (leaf t) parts) before behind n us proper spelled e =
-    let inner = build-parts tokens pieces parts (before ++ t ∷ []) behind n us proper.3 (spelled ∙ sym (append_assoc before (t ∷ []) (spells parts ++ behind))) e in
+    let inner = build-parts tokens pieces parts (before ++ t ∷ []) behind n us proper.3
+    (spelled ∙ sym (append_assoc before (t ∷ []) (spells parts ++ behind))) e in
     record {
       count = inner.count;
       builds = λ vs es. ap (λ a. build tokens (entries_of a parts ++ es) (built vs n)) (sym (length-append before (t ∷ [])))
@@ -112,7 +118,8 @@ build-parts tokens (part class ∷ pieces) (more (node production own) parts) be
     (spelled' ∙ sym (append_assoc before (spells own) (spells parts ++ behind))) front.are-others in
     let entry : Entry = record { production = production; first = length before; end = length before + length (spells own) } in
     let slice : slice_range tokens (length before) (length before + length (spells own)) ≡ spells own =
-    ap (λ ts. slice_range ts (length before) (length before + length (spells own))) spelled' ∙ own-tokens before (spells own) (spells parts ++ behind) in
+    ap (λ ts. slice_range ts (length before) (length before + length (spells own))) spelled'
+    ∙ own-tokens before (spells own) (spells parts ++ behind) in
     let makes : make production (place_in tokens (n + nodes_of own) entry) making.0 ≡ Some front.value =
     ap (λ ts. make production (place_of (n + nodes_of own) ts) making.0) slice ∙ making.2 in
     subst (λ all. Builds tokens (part class ∷ pieces) (length before) (more (node production own) parts) n all) (sym front.are-all)
@@ -126,7 +133,8 @@ build-parts tokens (part class ∷ pieces) (more (node production own) parts) be
           ∙ build-append tokens entry (later ++ es) (built (reverse_aux making.0 vs) (n + nodes_of own)) middle
           (built-one tokens entry (n + nodes_of own) making.0 vs front.value inner.count makes)
           ∙ ap (λ a. build tokens (entries_of a parts ++ es) middle) (sym (length-append before (spells own)))
-          ∙ ap (λ m. build tokens (entries_of (length (before ++ spells own)) parts ++ es) (built (front.value ∷ vs) m)) (add_assoc n (nodes_of own) (cond (is_node production) 1 0))
+          ∙ ap (λ m. build tokens (entries_of (length (before ++ spells own)) parts ++ es) (built (front.value ∷ vs) m))
+          (add_assoc n (nodes_of own) (cond (is_node production) 1 0))
           ∙ rest.builds (front.value ∷ vs) es
           ∙ ap (λ m. build tokens es (built (reverse_aux front.values (front.value ∷ vs)) m)) (add_assoc n own-nodes (nodes_of parts));
     }
@@ -140,6 +148,7 @@ whole-built tokens (node production own) v text e =
     let all = build-parts tokens (part source ∷ []) (more (node production own) none) [] [] 0 (v ∷ [])
     (text.is_source, text.proper, λ h. absurd (cc), tt)
     (sym text.spelled ∙ sym (append-nil (spells own)) ∙ sym (append-nil (spells own ++ []))) (ap (λ o. in_front o (Some [])) e) in
-    ap (λ es. build tokens es (built [] 0)) (sym (append-nil (entries 0 (node production own))) ∙ sym (append-nil (entries 0 (node production own) ++ [])))
+    ap (λ es. build tokens es (built [] 0)) (sym (append-nil (entries 0 (node production own)))
+    ∙ sym (append-nil (entries 0 (node production own) ++ [])))
     ∙ all.builds [] []
     ∙ ap (λ m. Some (built (v ∷ []) m)) (omega arith)

@@ -1,5 +1,6 @@
 -- A node that stands too deep begins before the end token.
-use Rattle.std.proofs.Common.{◌≡◌, ◌+◌, ◌<◌, ◌≤◌, ℕ, true, false, List, [], ◌∷◌, ◌++◌, length, Some, sym, ap, subst, refl, ◌∙◌, arith, length-append}
+use Rattle.std.proofs.Common.{◌≡◌, ◌+◌, ◌<◌, ◌≤◌, ℕ, true, false, List, [], ◌∷◌, ◌++◌, length, Some}
+use Rattle.std.proofs.Common.{sym, ap, subst, refl, ◌∙◌, arith, length-append}
 use Rattle.std.proofs.lemmas.List.{append-nil}
 use Rattle.std.specs.Prelude.{slice_get}
 use Rattle.csyn.specs.declared.token.Token.{Token}
@@ -15,7 +16,8 @@ use Rattle.cgrammar.specs.declared.production.Word.{Word}
 use Rattle.cgrammar.specs.declared.production.Word.TheVariants as word
 use Rattle.cgrammar.specs.declared.production.Words.{Words}
 use Rattle.cgrammar.specs.declared.production.Words.TheVariants as words
-use Rattle.cgrammar.specs.Grammar.{source, home, under, is_wider, class_number, words_number, operator_level, comparison_level, logical_level, alone, joined, template, own_nodes}
+use Rattle.cgrammar.specs.Grammar.{source, home, under, is_wider, class_number, words_number, operator_level}
+use Rattle.cgrammar.specs.Grammar.{comparison_level, logical_level, alone, joined, template, own_nodes}
 use Rattle.cgrammar.specs.Text.{Written, leaf, node, Forest, none, more, spell, spells, IsProper, Match, IsText}
 use Rattle.cparse.specs.Nodes.{deep, deep_of}
 use Rattle.cparse.proofs.Ascending.{Between, deep-between}
@@ -88,7 +90,8 @@ deep-parts (more (node p g) (more (leaf t) none)) place proper e =
     omega (arith, low, count)
 
 -- what is found stands before the end
-pub deep-within : (tokens : List Token) (written : Written) (place : ℕ) → IsText written tokens → slice_get (deep 0 0 written) 0 ≡ Some place
+pub deep-within : (tokens : List Token) (written : Written) (place : ℕ) → IsText written tokens
+    → slice_get (deep 0 0 written) 0 ≡ Some place
     → place < length tokens
 unfolding IsProper
 deep-within tokens (leaf t) place text e = elim (text.is_source) [ ]

@@ -41,7 +41,8 @@ unreadable-fault tokens place first =
       },
     )
 
-deep-fault : (tokens : List Token) (written : Written) (place : ℕ) → IsText written tokens → slice_get (deep 0 0 written) 0 ≡ Some place → HasFault tokens
+deep-fault : (tokens : List Token) (written : Written) (place : ℕ) → IsText written tokens
+    → slice_get (deep 0 0 written) 0 ≡ Some place → HasFault tokens
 deep-fault tokens written place text found =
     let stands = standing tokens place (deep-within tokens written place text found) in (
       (stands.0).span,
@@ -56,7 +57,8 @@ deep-fault tokens written place text found =
       },
     )
 
-source-tree : (tokens : List Token) (written : Written) → EndsOnce tokens → IsText written tokens → slice_get (deep 0 0 written) 0 ≡ None → HasTree tokens
+source-tree : (tokens : List Token) (written : Written) → EndsOnce tokens → IsText written tokens
+    → slice_get (deep 0 0 written) 0 ≡ None → HasTree tokens
 source-tree tokens written once text shallow =
     let bare = source-bare written text.is_source text.proper in
     let count = several tokens once in
@@ -80,7 +82,8 @@ by-levels : (tokens : List Token) (written : Written) → EndsOnce tokens → Is
 by-levels tokens written once text None e = inl (source-tree tokens written once text e)
 by-levels tokens written once text (Some place) e = inr (deep-fault tokens written place text e)
 
-pub tree-or-fault : (tokens : List Token) → EndsOnce tokens → ((written : Written) × IsText written tokens) ⊎ ((place : ℕ) × IsFirstFault tokens place)
+pub tree-or-fault : (tokens : List Token) → EndsOnce tokens → ((written : Written) × IsText written tokens)
+    ⊎ ((place : ℕ) × IsFirstFault tokens place)
     → HasTree tokens ⊎ HasFault tokens
 tree-or-fault tokens once (inl source) = by-levels tokens source.0 once source.1 (slice_get (deep 0 0 (source.0)) 0) refl
 tree-or-fault tokens once (inr fault) = inr (unreadable-fault tokens fault.0 fault.1)

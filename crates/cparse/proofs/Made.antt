@@ -1,5 +1,6 @@
 -- Each production makes a value of its kind of parts that are of theirs.
-use Rattle.std.proofs.Common.{◌≡◌, ℕ, ◌-◌, Bool, true, false, ◌||◌, if◌then◌else◌, codes, List, [], ◌∷◌, length, Option, Some, slice_get, sym, subst}
+use Rattle.std.proofs.Common.{◌≡◌, ℕ, ◌-◌, Bool, true, false, ◌||◌, if◌then◌else◌, codes, List, []}
+use Rattle.std.proofs.Common.{◌∷◌, length, Option, Some, slice_get, sym, subst}
 use Rattle.std.specs.Option.{option_map}
 use Rattle.csyn.specs.declared.mark.Mark.{Mark}
 use Rattle.csyn.specs.declared.token.Token.{Token}
@@ -33,7 +34,12 @@ use Rattle.cparts.specs.declared.value.Value.TheVariants as value
 use Rattle.cparts.specs.Parts as taken
 use Rattle.cparts.specs.Parts.{pick, perhaps, one, two, three, four}
 use Rattle.caction.specs.Make.{table, identifier, literal, number, character, prefixed, standard, specified, qualified, worded, no_words}
-use Rattle.cparse.proofs.Shape.{text, expr, base, specifiers, words, qualifiers, shape, shapes, Fits, end, and, Made, made, unused, is_base, is_specifiers, is_declarator, is_declarators, is_expr, is_exprs, is_external_rest, is_for_first, is_function_end, is_init, is_init_declarator, is_init_declarators, is_inits, is_items, is_label, is_member, is_members, is_object, is_optional_expr, is_optional_init, is_optional_stmt, is_parameter, is_parameter_list, is_parameters, is_pointers, is_qualifiers, is_register_type, is_stmt, is_switch_items, is_text, is_type_name, is_unit, is_units, is_words}
+use Rattle.cparse.proofs.Shape.{text, expr, base, specifiers, words, qualifiers, shape, shapes, Fits, end, and, Made, made, unused}
+use Rattle.cparse.proofs.Shape.{is_base, is_specifiers, is_declarator, is_declarators, is_expr, is_exprs, is_external_rest}
+use Rattle.cparse.proofs.Shape.{is_for_first, is_function_end, is_init, is_init_declarator, is_init_declarators, is_inits, is_items}
+use Rattle.cparse.proofs.Shape.{is_label, is_member, is_members, is_object, is_optional_expr, is_optional_init, is_optional_stmt}
+use Rattle.cparse.proofs.Shape.{is_parameter, is_parameter_list, is_parameters, is_pointers, is_qualifiers, is_register_type}
+use Rattle.cparse.proofs.Shape.{is_stmt, is_switch_items, is_text, is_type_name, is_unit, is_units, is_words}
 
 -- a token that the terminal accepts
 pub record Accepted (wanted : Terminal) (o : Option Token) : Type 0 where
@@ -108,7 +114,8 @@ lettered mark (token.Identifier n) h = absurd (name-kinds (λ k. accepts termina
 lettered mark (token.Standard integer.Uint32) h = absurd (cc)
 lettered mark _ h = absurd (cc)
 
-prefixes : (mark : Mark) (e : Box Expr) → (k : TokenKind) → accepts terminal.Prefix (token_kind k) ≡ true → Made expr (prefixed mark (Some k) e)
+prefixes : (mark : Mark) (e : Box Expr) → (k : TokenKind) → accepts terminal.Prefix (token_kind k) ≡ true
+    → Made expr (prefixed mark (Some k) e)
 unfolding accepts keyword_number punctuator_number
 prefixes mark e (token.Punctuator punctuator.Plus) h = made (is_expr _)
 prefixes mark e (token.Punctuator punctuator.Minus) h = made (is_expr _)
@@ -120,7 +127,8 @@ prefixes mark e (token.Identifier n) h = absurd (name-kinds (λ k. accepts termi
 prefixes mark e (token.Standard integer.Uint32) h = absurd (cc)
 prefixes mark e _ h = absurd (cc)
 
-specifies : (t : Specifiers) → (k : TokenKind) → accepts terminal.Specifier (token_kind k) ≡ true → Made specifiers (option_map (λ s. value.Specifiers s) (specified t (Some k)))
+specifies : (t : Specifiers) → (k : TokenKind) → accepts terminal.Specifier (token_kind k) ≡ true
+    → Made specifiers (option_map (λ s. value.Specifiers s) (specified t (Some k)))
 unfolding accepts keyword_number punctuator_number
 specifies t (token.Keyword keyword.Static) h = made (is_specifiers _)
 specifies t (token.Keyword keyword.Inline) h = made (is_specifiers _)
@@ -130,7 +138,8 @@ specifies t (token.Identifier n) h = absurd (name-kinds (λ k. accepts terminal.
 specifies t (token.Standard integer.Uint32) h = absurd (cc)
 specifies t _ h = absurd (cc)
 
-qualifies : (q : Pointer) → (k : TokenKind) → accepts terminal.Qualifier (token_kind k) ≡ true → Made qualifiers (option_map (λ r. value.Qualifiers r) (qualified q (Some k)))
+qualifies : (q : Pointer) → (k : TokenKind) → accepts terminal.Qualifier (token_kind k) ≡ true
+    → Made qualifiers (option_map (λ r. value.Qualifiers r) (qualified q (Some k)))
 unfolding accepts keyword_number punctuator_number
 qualifies q (token.Keyword keyword.Const) h = made (is_qualifiers _)
 qualifies q (token.Keyword keyword.Volatile) h = made (is_qualifiers _)
@@ -144,7 +153,8 @@ standing (token.Standard n) h = made (is_base _)
 standing (token.Identifier n) h = absurd (name-kinds (λ k. accepts terminal.Standard k ≡ true → ⊥) no no no n h)
 standing _ h = absurd (cc)
 
-signs : (w : IntegerWords) → (k : TokenKind) → accepts terminal.Sign (token_kind k) ≡ true → Made words (option_map (λ v. value.Words v) (worded w (Some k)))
+signs : (w : IntegerWords) → (k : TokenKind) → accepts terminal.Sign (token_kind k) ≡ true
+    → Made words (option_map (λ v. value.Words v) (worded w (Some k)))
 unfolding accepts keyword_number punctuator_number
 signs w (token.Keyword keyword.Signed) h = made (is_words _)
 signs w (token.Keyword keyword.Unsigned) h = made (is_words _)
@@ -152,14 +162,16 @@ signs w (token.Identifier n) h = absurd (name-kinds (λ k. accepts terminal.Sign
 signs w (token.Standard integer.Uint32) h = absurd (cc)
 signs w _ h = absurd (cc)
 
-chars : (w : IntegerWords) → (k : TokenKind) → accepts (terminal.Keyword keyword.Char) (token_kind k) ≡ true → Made words (option_map (λ v. value.Words v) (worded w (Some k)))
+chars : (w : IntegerWords) → (k : TokenKind) → accepts (terminal.Keyword keyword.Char) (token_kind k) ≡ true
+    → Made words (option_map (λ v. value.Words v) (worded w (Some k)))
 unfolding accepts keyword_number punctuator_number
 chars w (token.Keyword keyword.Char) h = made (is_words _)
 chars w (token.Identifier n) h = absurd (name-kinds (λ k. accepts (terminal.Keyword keyword.Char) k ≡ true → ⊥) no no no n h)
 chars w (token.Standard integer.Uint32) h = absurd (cc)
 chars w _ h = absurd (cc)
 
-sizes : (w : IntegerWords) → (k : TokenKind) → accepts terminal.Length (token_kind k) ≡ true → Made words (option_map (λ v. value.Words v) (worded w (Some k)))
+sizes : (w : IntegerWords) → (k : TokenKind) → accepts terminal.Length (token_kind k) ≡ true
+    → Made words (option_map (λ v. value.Words v) (worded w (Some k)))
 unfolding accepts keyword_number punctuator_number
 sizes w (token.Keyword keyword.Short) h = made (is_words _)
 sizes w (token.Keyword keyword.Long) h = made (is_words _)
@@ -167,14 +179,16 @@ sizes w (token.Identifier n) h = absurd (name-kinds (λ k. accepts terminal.Leng
 sizes w (token.Standard integer.Uint32) h = absurd (cc)
 sizes w _ h = absurd (cc)
 
-ints : (w : IntegerWords) → (k : TokenKind) → accepts (terminal.Keyword keyword.Int) (token_kind k) ≡ true → Made words (option_map (λ v. value.Words v) (worded w (Some k)))
+ints : (w : IntegerWords) → (k : TokenKind) → accepts (terminal.Keyword keyword.Int) (token_kind k) ≡ true
+    → Made words (option_map (λ v. value.Words v) (worded w (Some k)))
 unfolding accepts keyword_number punctuator_number
 ints w (token.Keyword keyword.Int) h = made (is_words _)
 ints w (token.Identifier n) h = absurd (name-kinds (λ k. accepts (terminal.Keyword keyword.Int) k ≡ true → ⊥) no no no n h)
 ints w (token.Standard integer.Uint32) h = absurd (cc)
 ints w _ h = absurd (cc)
 
-one-more : (word : Word) (w : IntegerWords) (k : TokenKind) → accepts (word_token word) (token_kind k) ≡ true → Made words (option_map (λ v. value.Words v) (worded w (Some k)))
+one-more : (word : Word) (w : IntegerWords) (k : TokenKind) → accepts (word_token word) (token_kind k) ≡ true
+    → Made words (option_map (λ v. value.Words v) (worded w (Some k)))
 unfolding word_token
 one-more word.Sign = signs
 one-more word.Char = chars
@@ -182,20 +196,32 @@ one-more word.Length = sizes
 one-more word.Int = ints
 
 -- the words that go together, with the last of them
-next-word : (all : Words) (w : Word) (mark : Mark) (tokens : List Token) {vs : List Value} → Fits (shape (before all w) ∷ []) vs → Ends (word_token w) tokens
+next-word : (all : Words) (w : Word) (mark : Mark) (tokens : List Token) {vs : List Value} → Fits (shape (before all w) ∷ []) vs
+    → Ends (word_token w) tokens
     → Made (shape (joined all w)) (table (production.NextWord all w) mark tokens vs)
 unfolding shape before joined table pick perhaps
-next-word every.SignChar word.Char mark tokens (and (is_words x) end) own = by-token (word_token word.Char) (λ k. Made words (option_map (λ v. value.Words v) (worded x k))) _ own (one-more word.Char x)
-next-word every.SignLength word.Length mark tokens (and (is_words x) end) own = by-token (word_token word.Length) (λ k. Made words (option_map (λ v. value.Words v) (worded x k))) _ own (one-more word.Length x)
-next-word every.SignInt word.Int mark tokens (and (is_words x) end) own = by-token (word_token word.Int) (λ k. Made words (option_map (λ v. value.Words v) (worded x k))) _ own (one-more word.Int x)
-next-word every.SignChar word.Sign mark tokens (and (is_words x) end) own = by-token (word_token word.Sign) (λ k. Made words (option_map (λ v. value.Words v) (worded x k))) _ own (one-more word.Sign x)
-next-word every.SignLength word.Sign mark tokens (and (is_words x) end) own = by-token (word_token word.Sign) (λ k. Made words (option_map (λ v. value.Words v) (worded x k))) _ own (one-more word.Sign x)
-next-word every.LengthInt word.Int mark tokens (and (is_words x) end) own = by-token (word_token word.Int) (λ k. Made words (option_map (λ v. value.Words v) (worded x k))) _ own (one-more word.Int x)
-next-word every.SignInt word.Sign mark tokens (and (is_words x) end) own = by-token (word_token word.Sign) (λ k. Made words (option_map (λ v. value.Words v) (worded x k))) _ own (one-more word.Sign x)
-next-word every.LengthInt word.Length mark tokens (and (is_words x) end) own = by-token (word_token word.Length) (λ k. Made words (option_map (λ v. value.Words v) (worded x k))) _ own (one-more word.Length x)
-next-word every.SignLengthInt word.Int mark tokens (and (is_words x) end) own = by-token (word_token word.Int) (λ k. Made words (option_map (λ v. value.Words v) (worded x k))) _ own (one-more word.Int x)
-next-word every.SignLengthInt word.Length mark tokens (and (is_words x) end) own = by-token (word_token word.Length) (λ k. Made words (option_map (λ v. value.Words v) (worded x k))) _ own (one-more word.Length x)
-next-word every.SignLengthInt word.Sign mark tokens (and (is_words x) end) own = by-token (word_token word.Sign) (λ k. Made words (option_map (λ v. value.Words v) (worded x k))) _ own (one-more word.Sign x)
+next-word every.SignChar word.Char mark tokens (and (is_words x) end) own =
+    by-token (word_token word.Char) (λ k. Made words (option_map (λ v. value.Words v) (worded x k))) _ own (one-more word.Char x)
+next-word every.SignLength word.Length mark tokens (and (is_words x) end) own =
+    by-token (word_token word.Length) (λ k. Made words (option_map (λ v. value.Words v) (worded x k))) _ own (one-more word.Length x)
+next-word every.SignInt word.Int mark tokens (and (is_words x) end) own =
+    by-token (word_token word.Int) (λ k. Made words (option_map (λ v. value.Words v) (worded x k))) _ own (one-more word.Int x)
+next-word every.SignChar word.Sign mark tokens (and (is_words x) end) own =
+    by-token (word_token word.Sign) (λ k. Made words (option_map (λ v. value.Words v) (worded x k))) _ own (one-more word.Sign x)
+next-word every.SignLength word.Sign mark tokens (and (is_words x) end) own =
+    by-token (word_token word.Sign) (λ k. Made words (option_map (λ v. value.Words v) (worded x k))) _ own (one-more word.Sign x)
+next-word every.LengthInt word.Int mark tokens (and (is_words x) end) own =
+    by-token (word_token word.Int) (λ k. Made words (option_map (λ v. value.Words v) (worded x k))) _ own (one-more word.Int x)
+next-word every.SignInt word.Sign mark tokens (and (is_words x) end) own =
+    by-token (word_token word.Sign) (λ k. Made words (option_map (λ v. value.Words v) (worded x k))) _ own (one-more word.Sign x)
+next-word every.LengthInt word.Length mark tokens (and (is_words x) end) own =
+    by-token (word_token word.Length) (λ k. Made words (option_map (λ v. value.Words v) (worded x k))) _ own (one-more word.Length x)
+next-word every.SignLengthInt word.Int mark tokens (and (is_words x) end) own =
+    by-token (word_token word.Int) (λ k. Made words (option_map (λ v. value.Words v) (worded x k))) _ own (one-more word.Int x)
+next-word every.SignLengthInt word.Length mark tokens (and (is_words x) end) own =
+    by-token (word_token word.Length) (λ k. Made words (option_map (λ v. value.Words v) (worded x k))) _ own (one-more word.Length x)
+next-word every.SignLengthInt word.Sign mark tokens (and (is_words x) end) own =
+    by-token (word_token word.Sign) (λ k. Made words (option_map (λ v. value.Words v) (worded x k))) _ own (one-more word.Sign x)
 next-word _ _ mark tokens fits own = unused
 
 -- of parts of their kinds and tokens that are accepted a production makes a value of its kind
@@ -216,7 +242,8 @@ makes production.PostIncrement mark tokens (and (is_expr a) end) own = made (is_
 makes production.PostDecrement mark tokens (and (is_expr a) end) own = made (is_expr _)
 makes production.PreIncrement mark tokens (and (is_expr a) end) own = made (is_expr _)
 makes production.PreDecrement mark tokens (and (is_expr a) end) own = made (is_expr _)
-makes production.Prefix mark tokens (and (is_expr a) end) own = by-token terminal.Prefix (λ k. Made expr (prefixed mark k (at_null a))) _ own (prefixes mark (at_null a))
+makes production.Prefix mark tokens (and (is_expr a) end) own =
+    by-token terminal.Prefix (λ k. Made expr (prefixed mark k (at_null a))) _ own (prefixes mark (at_null a))
 makes production.SizeofExpression mark tokens (and (is_expr a) end) own = made (is_expr _)
 makes production.SizeofType mark tokens (and (is_type_name a) end) own = made (is_expr _)
 makes production.Cast mark tokens (and (is_type_name a) (and (is_expr b) end)) own = made (is_expr _)
@@ -234,15 +261,18 @@ makes production.NextArgument mark tokens (and (is_expr a) (and (is_exprs b) end
 makes production.NoExpression mark tokens end own = made (is_optional_expr _)
 makes production.SomeExpression mark tokens (and (is_expr a) end) own = made (is_optional_expr _)
 makes production.TypeName mark tokens (and (is_specifiers a) (and (is_pointers b) end)) own = made (is_type_name _)
-makes production.Specified mark tokens (and (is_specifiers a) end) own = by-token terminal.Specifier (λ k. Made specifiers (option_map (λ s. value.Specifiers s) (specified a k))) _ own (specifies a)
+makes production.Specified mark tokens (and (is_specifiers a) end) own =
+    by-token terminal.Specifier (λ k. Made specifiers (option_map (λ s. value.Specifiers s) (specified a k))) _ own (specifies a)
 makes production.Based mark tokens (and (is_base a) (and (is_qualifiers b) end)) own = made (is_specifiers _)
 makes production.NoQualifiers mark tokens end own = made (is_qualifiers _)
-makes production.Qualified mark tokens (and (is_qualifiers a) end) own = by-token terminal.Qualifier (λ k. Made qualifiers (option_map (λ r. value.Qualifiers r) (qualified a k))) _ own (qualifies a)
+makes production.Qualified mark tokens (and (is_qualifiers a) end) own =
+    by-token terminal.Qualifier (λ k. Made qualifiers (option_map (λ r. value.Qualifiers r) (qualified a k))) _ own (qualifies a)
 makes production.VoidBase mark tokens end own = made (is_base _)
 makes production.StructBase mark tokens (and (is_text a) end) own = made (is_base _)
 makes production.StandardBase mark tokens end own = by-token terminal.Standard (λ k. Made base (standard k)) _ own standing
 makes production.IntegerBase mark tokens (and (is_words a) end) own = made (is_base _)
-makes (production.FirstWord w) mark tokens end own = by-token (word_token w) (λ k. Made words (option_map (λ v. value.Words v) (worded no_words k))) _ own (one-more w no_words)
+makes (production.FirstWord w) mark tokens end own = by-token (word_token w)
+    (λ k. Made words (option_map (λ v. value.Words v) (worded no_words k))) _ own (one-more w no_words)
 makes (production.NextWord all w) mark tokens fits own = next-word all w mark tokens fits own
 makes production.NoPointers mark tokens end own = made (is_pointers _)
 makes production.Star mark tokens (and (is_pointers a) end) own = made (is_pointers _)
@@ -253,7 +283,8 @@ makes production.Length mark tokens (and (is_expr a) (and (is_exprs b) end)) own
 makes production.Declarator mark tokens (and (is_pointers a) (and (is_text b) (and (is_exprs c) end))) own = made (is_declarator _)
 makes production.EndDeclarators mark tokens end own = made (is_declarators _)
 makes production.NextDeclarator mark tokens (and (is_declarator a) (and (is_declarators b) end)) own = made (is_declarators _)
-makes production.StructMember mark tokens (and (is_specifiers a) (and (is_declarator b) (and (is_declarators c) end))) own = made (is_member _)
+makes production.StructMember mark tokens (and (is_specifiers a) (and (is_declarator b) (and (is_declarators c) end))) own =
+    made (is_member _)
 makes production.EndMembers mark tokens end own = made (is_members _)
 makes production.NextMember mark tokens (and (is_member a) (and (is_members b) end)) own = made (is_members _)
 makes production.NoLocation mark tokens end own = made (is_optional_expr _)
@@ -266,10 +297,13 @@ makes production.EndInits mark tokens end own = made (is_inits _)
 makes production.CommaInits mark tokens (and (is_inits a) end) own = made (is_inits _)
 makes production.TrailingComma mark tokens end own = made (is_inits _)
 makes production.NextInit mark tokens (and (is_init a) (and (is_inits b) end)) own = made (is_inits _)
-makes production.InitDeclarator mark tokens (and (is_declarator a) (and (is_optional_expr b) (and (is_optional_init c) end))) own = made (is_init_declarator _)
+makes production.InitDeclarator mark tokens (and (is_declarator a) (and (is_optional_expr b) (and (is_optional_init c) end))) own =
+    made (is_init_declarator _)
 makes production.EndInitDeclarators mark tokens end own = made (is_init_declarators _)
-makes production.NextInitDeclarator mark tokens (and (is_init_declarator a) (and (is_init_declarators b) end)) own = made (is_init_declarators _)
-makes production.LocalObject mark tokens (and (is_specifiers a) (and (is_init_declarator b) (and (is_init_declarators c) end))) own = made (is_object _)
+makes production.NextInitDeclarator mark tokens (and (is_init_declarator a) (and (is_init_declarators b) end)) own =
+    made (is_init_declarators _)
+makes production.LocalObject mark tokens (and (is_specifiers a) (and (is_init_declarator b) (and (is_init_declarators c) end))) own
+    = made (is_object _)
 makes production.Block mark tokens (and (is_items a) end) own = made (is_stmt _)
 makes production.ExpressionStatement mark tokens (and (is_optional_expr a) end) own = made (is_stmt _)
 makes production.If mark tokens (and (is_expr a) (and (is_stmt b) (and (is_optional_stmt c) end))) own = made (is_stmt _)
@@ -279,7 +313,8 @@ makes production.While mark tokens (and (is_expr a) (and (is_stmt b) end)) own =
 makes production.Do mark tokens (and (is_stmt a) (and (is_expr b) end)) own = made (is_stmt _)
 makes production.ForObject mark tokens (and (is_object a) end) own = made (is_for_first _)
 makes production.ForExpression mark tokens (and (is_optional_expr a) end) own = made (is_for_first _)
-makes production.For mark tokens (and (is_for_first a) (and (is_optional_expr b) (and (is_optional_expr c) (and (is_stmt d) end)))) own = made (is_stmt _)
+makes production.For mark tokens (and (is_for_first a) (and (is_optional_expr b) (and (is_optional_expr c) (and (is_stmt d) end))))
+    own = made (is_stmt _)
 makes production.Switch mark tokens (and (is_expr a) (and (is_switch_items b) end)) own = made (is_stmt _)
 makes production.NoSwitchItems mark tokens end own = made (is_switch_items _)
 makes production.FirstLabel mark tokens (and (is_label a) (and (is_switch_items b) end)) own = made (is_switch_items _)
@@ -300,15 +335,18 @@ makes production.StructUnit mark tokens (and (is_text a) (and (is_member b) (and
 makes production.RegisterUnit mark tokens (and is_register_type end) own = made (is_unit _)
 makes production.UnsignedInt mark tokens end own = made is_register_type
 makes production.RegisterUint32 mark tokens end own = made is_register_type
-makes production.External mark tokens (and (is_specifiers a) (and (is_pointers b) (and (is_text c) (and (is_external_rest d) end)))) own = made (is_unit _)
-makes production.ObjectRest mark tokens (and (is_exprs a) (and (is_optional_expr b) (and (is_optional_init c) (and (is_init_declarators d) end)))) own = made (is_external_rest _)
+makes production.External mark tokens (and (is_specifiers a) (and (is_pointers b) (and (is_text c) (and (is_external_rest d) end))))
+    own = made (is_unit _)
+makes production.ObjectRest mark tokens (and (is_exprs a) (and (is_optional_expr b)
+    (and (is_optional_init c) (and (is_init_declarators d) end)))) own = made (is_external_rest _)
 makes production.FunctionRest mark tokens (and (is_parameters a) (and (is_function_end b) end)) own = made (is_external_rest _)
 makes production.PrototypeEnd mark tokens end own = made (is_function_end _)
 makes production.FunctionBody mark tokens (and (is_items a) end) own = made (is_function_end _)
 makes production.NoParameters mark tokens end own = made (is_parameters _)
 makes production.VoidParameters mark tokens end own = made (is_parameters _)
 makes production.SomeParameters mark tokens (and (is_parameter a) (and (is_parameter_list b) end)) own = made (is_parameters _)
-makes production.Parameter mark tokens (and (is_specifiers a) (and (is_pointers b) (and (is_text c) (and (is_exprs d) end)))) own = made (is_parameter _)
+makes production.Parameter mark tokens (and (is_specifiers a) (and (is_pointers b) (and (is_text c) (and (is_exprs d) end)))) own =
+    made (is_parameter _)
 makes production.ArrayParameter mark tokens (and (is_specifiers a) (and (is_pointers b) (and (is_text c) end))) own = made (is_parameter _)
 makes production.EndParameters mark tokens end own = made (is_parameter_list _)
 makes production.NextParameter mark tokens (and (is_parameter a) (and (is_parameter_list b) end)) own = made (is_parameter_list _)

@@ -19,8 +19,14 @@ use Rattle.cparts.specs.declared.value.Value.TheVariants as value
 use Rattle.cparts.specs.Value.{bare_value, bare_values}
 use Rattle.cparts.specs.Parts as taken
 use Rattle.cparts.specs.Parts.{pick, perhaps, one, two, three, four, words}
-use Rattle.caction.specs.Make.{table, first, last, identifier, literal, number, character, prefix_of, expression_at, standard, specified, qualified, worded, no_words}
-use Rattle.cparse.proofs.Shape.{shape, shapes, Fits, end, and, is_base, is_specifiers, is_declarator, is_declarators, is_expr, is_exprs, is_external_rest, is_for_first, is_function_end, is_init, is_init_declarator, is_init_declarators, is_inits, is_items, is_label, is_member, is_members, is_object, is_optional_expr, is_optional_init, is_optional_stmt, is_parameter, is_parameter_list, is_parameters, is_pointers, is_qualifiers, is_register_type, is_stmt, is_switch_items, is_text, is_type_name, is_unit, is_units, is_words}
+use Rattle.caction.specs.Make.{table, first, last, identifier, literal, number, character, prefix_of}
+use Rattle.caction.specs.Make.{expression_at, standard, specified, qualified, worded, no_words}
+use Rattle.cparse.proofs.Shape.{shape, shapes, Fits, end, and, is_base, is_specifiers, is_declarator, is_declarators, is_expr}
+use Rattle.cparse.proofs.Shape.{is_exprs, is_external_rest, is_for_first, is_function_end, is_init, is_init_declarator}
+use Rattle.cparse.proofs.Shape.{is_init_declarators, is_inits, is_items, is_label, is_member, is_members, is_object}
+use Rattle.cparse.proofs.Shape.{is_optional_expr, is_optional_init, is_optional_stmt, is_parameter, is_parameter_list}
+use Rattle.cparse.proofs.Shape.{is_parameters, is_pointers, is_qualifiers, is_register_type, is_stmt, is_switch_items, is_text}
+use Rattle.cparse.proofs.Shape.{is_type_name, is_unit, is_units, is_words}
 
 -- the values of tokens
 identifier-bare : (o : Option TokenKind) → option_map bare_value (identifier o) ≡ identifier o
@@ -171,10 +177,14 @@ natural production.StructUnit mark tokens (and (is_text a) (and (is_member b) (a
 natural production.RegisterUnit mark tokens (and is_register_type end) = refl
 natural production.UnsignedInt mark tokens end = refl
 natural production.RegisterUint32 mark tokens end = refl
-natural production.External mark tokens (and (is_specifiers a) (and (is_pointers b) (and (is_text c) (and (is_external_rest (rest.Object o)) end)))) = refl
-natural production.External mark tokens (and (is_specifiers a) (and (is_pointers b) (and (is_text c) (and (is_external_rest (rest.Function ps None)) end)))) = refl
-natural production.External mark tokens (and (is_specifiers a) (and (is_pointers b) (and (is_text c) (and (is_external_rest (rest.Function ps (Some body))) end)))) = refl
-natural production.ObjectRest mark tokens (and (is_exprs a) (and (is_optional_expr b) (and (is_optional_init c) (and (is_init_declarators d) end)))) = refl
+natural production.External mark tokens (and (is_specifiers a)
+    (and (is_pointers b) (and (is_text c) (and (is_external_rest (rest.Object o)) end)))) = refl
+natural production.External mark tokens (and (is_specifiers a)
+    (and (is_pointers b) (and (is_text c) (and (is_external_rest (rest.Function ps None)) end)))) = refl
+natural production.External mark tokens (and (is_specifiers a)
+    (and (is_pointers b) (and (is_text c) (and (is_external_rest (rest.Function ps (Some body))) end)))) = refl
+natural production.ObjectRest mark tokens (and (is_exprs a) (and (is_optional_expr b)
+    (and (is_optional_init c) (and (is_init_declarators d) end)))) = refl
 natural production.FunctionRest mark tokens (and (is_parameters a) (and (is_function_end b) end)) = refl
 natural production.PrototypeEnd mark tokens end = refl
 natural production.FunctionBody mark tokens (and (is_items a) end) = refl

@@ -35,7 +35,10 @@ use Rattle.cparts.specs.declared.value.Value.{Value}
 use Rattle.cparts.specs.declared.value.Value.TheVariants as value
 use Rattle.csyn.specs.declared.expression.ExprKind as expression
 use Rattle.csyn.specs.Bare.{at_null}
-use Rattle.csyn.specs.Levels.{expr_levels, exprs_levels, option_levels, declarator_levels, declarators_levels, members_levels, init_levels, inits_levels, option_init_levels, init_declarator_levels, init_declarators_levels, local_levels, parameter_list_levels, parameters_levels, for_first_levels, stmt_levels, items_levels, label_levels, switch_items_levels, unit_kind_levels, stmt_kind_levels, unit_levels, units_levels}
+use Rattle.csyn.specs.Levels.{expr_levels, exprs_levels, option_levels, declarator_levels, declarators_levels, members_levels}
+use Rattle.csyn.specs.Levels.{init_levels, inits_levels, option_init_levels, init_declarator_levels, init_declarators_levels}
+use Rattle.csyn.specs.Levels.{local_levels, parameter_list_levels, parameters_levels, for_first_levels, stmt_levels, items_levels}
+use Rattle.csyn.specs.Levels.{label_levels, switch_items_levels, unit_kind_levels, stmt_kind_levels, unit_levels, units_levels}
 use Rattle.csyn.specs.declared.mark.Mark.{Mark}
 use Rattle.csyn.specs.declared.token.Token.{Token}
 use Rattle.csyn.specs.declared.token.TokenKind.{TokenKind}
@@ -46,8 +49,13 @@ use Rattle.cgrammar.specs.declared.production.Production.TheVariants as producti
 use Rattle.cgrammar.specs.Grammar.{own_nodes}
 use Rattle.cparts.specs.declared.value.ExternalRest.TheVariants as rest_of
 use Rattle.cparts.specs.Parts as taken
-use Rattle.cparts.specs.Parts.{and_then, pick, perhaps, one, two, three, four, boxed, only, register_type, text, expr, exprs, optional_expr, type_name, specifiers, base, words, qualifiers, pointers, declarator, declarators, member, members, init, optional_init, inits, init_declarator, init_declarators, object, stmt, optional_stmt, for_first, items, label, switch_items, external_rest, function_end, parameters, parameter, parameter_list, unit, units}
-use Rattle.caction.specs.Make.{table, first, last, identifier, literal, number, character, prefix_of, standard, specified, qualified, worded, no_words, if_of, external, expression_at}
+use Rattle.cparts.specs.Parts.{and_then, pick, perhaps, one, two, three, four, boxed, only, register_type, text, expr, exprs}
+use Rattle.cparts.specs.Parts.{optional_expr, type_name, specifiers, base, words, qualifiers, pointers, declarator, declarators}
+use Rattle.cparts.specs.Parts.{member, members, init, optional_init, inits, init_declarator, init_declarators, object, stmt}
+use Rattle.cparts.specs.Parts.{optional_stmt, for_first, items, label, switch_items, external_rest, function_end, parameters}
+use Rattle.cparts.specs.Parts.{parameter, parameter_list, unit, units}
+use Rattle.caction.specs.Make.{table, first, last, identifier, literal, number, character, prefix_of, standard}
+use Rattle.caction.specs.Make.{specified, qualified, worded, no_words, if_of, external, expression_at}
 
 abbrev pub branch_levels : Option (Box Stmt) → ℕ
 branch_levels None = 0
@@ -58,7 +66,8 @@ body_levels None = 0
 body_levels (Some all) = items_levels all
 
 abbrev pub rest_levels : ExternalRest → ℕ
-rest_levels (rest_of.Object o) = max (exprs_levels o.lengths) (max (option_levels o.location) (max (option_init_levels o.init) (init_declarators_levels o.others)))
+rest_levels (rest_of.Object o) = max (exprs_levels o.lengths)
+    (max (option_levels o.location) (max (option_init_levels o.init) (init_declarators_levels o.others)))
 rest_levels (rest_of.Function ps body) = max (parameters_levels ps) (body_levels body)
 
 -- how many levels a value has: types and texts have none
@@ -366,7 +375,8 @@ raise m n _ l unmade = unmade
 raise m n _ l (at_most h) = at_most (omega arith)
 
 -- Of values of which one is taken at a time: m levels were taken before, and n are added.
-pick-levels : {A : Type 0} {take : Value → Option A} {levels : A → ℕ} (n m : ℕ) → Taken take levels → (go_on : A → List Value → Option Value)
+pick-levels : {A : Type 0} {take : Value → Option A} {levels : A → ℕ} (n m : ℕ) → Taken take levels
+    → (go_on : A → List Value → Option Value)
     → ((a : A) (ws : List Value) → AtMost (n + max (max m (levels a)) (greatest ws)) (go_on a ws))
     → (vs : List Value) → AtMost (n + max m (greatest vs)) (pick take go_on vs)
 unfolding pick
@@ -412,11 +422,13 @@ flat : {A : Type 0} (o : Option A) (to : A → Value) → ((a : A) → value_lev
 flat None to none n = unmade
 flat (Some a) to none n = let e = none a in at_most (omega arith)
 
-prefixed-levels : (mark : Mark) (o : Option PrefixOperator) (e : Box Expr) → AtMost (1 + expr_levels e.value) (option_map (λ p. expression_at mark (expression.Prefix p e)) o)
+prefixed-levels : (mark : Mark) (o : Option PrefixOperator) (e : Box Expr)
+    → AtMost (1 + expr_levels e.value) (option_map (λ p. expression_at mark (expression.Prefix p e)) o)
 prefixed-levels mark None e = unmade
 prefixed-levels mark (Some _) e = at_most (omega arith)
 
-if-levels : (c : Box Expr) (s : Box Stmt) (o : Option (Box Stmt)) → stmt_kind_levels (if_of c s o) ≤ 1 + max (max (expr_levels c.value) (stmt_levels s.value)) (branch_levels o)
+if-levels : (c : Box Expr) (s : Box Stmt) (o : Option (Box Stmt))
+    → stmt_kind_levels (if_of c s o) ≤ 1 + max (max (expr_levels c.value) (stmt_levels s.value)) (branch_levels o)
 if-levels c s None = omega arith
 if-levels c s (Some t) = omega arith
 
@@ -426,118 +438,207 @@ external-levels t p n (rest_of.Function ps None) = omega arith
 external-levels t p n (rest_of.Function ps (Some body)) = omega arith
 
 -- what a production makes has at most as many levels as its parts, and one more if it is a node
-pub table-levels : (p : Production) (mark : Mark) (tokens : List Token) (vs : List Value) → AtMost (own_nodes p + max 0 (greatest vs)) (table p mark tokens vs)
+pub table-levels : (p : Production) (mark : Mark) (tokens : List Token) (vs : List Value)
+    → AtMost (own_nodes p + max 0 (greatest vs)) (table p mark tokens vs)
 unfolding table own_nodes perhaps one two three four taken.none
 table-levels production.Identifier mark tokens vs = only-levels _ _ (identifier-levels (first tokens) _) vs
 table-levels production.Name mark tokens vs = pick-levels 1 _ text-taken _ (λ a ws0. only-levels _ _ (at_most (omega arith)) ws0) vs
 table-levels production.Number mark tokens vs = only-levels _ _ (number-levels mark (first tokens) _) vs
 table-levels production.Character mark tokens vs = only-levels _ _ (character-levels mark (first tokens) _) vs
-table-levels production.Parenthesised mark tokens vs = pick-levels 0 _ expr-taken _ (λ a ws0. only-levels _ _ (at_most (omega arith)) ws0) vs
-table-levels production.Index mark tokens vs = pick-levels 1 _ (boxed-taken expr-taken) _ (λ a ws0. pick-levels 1 _ (boxed-taken expr-taken) _ (λ b ws1. only-levels _ _ (at_most (omega arith)) ws1) ws0) vs
-table-levels production.CallFunction mark tokens vs = pick-levels 1 _ text-taken _ (λ a ws0. pick-levels 1 _ exprs-taken _ (λ b ws1. only-levels _ _ (at_most (omega arith)) ws1) ws0) vs
-table-levels production.Call mark tokens vs = pick-levels 1 _ (boxed-taken expr-taken) _ (λ a ws0. pick-levels 1 _ exprs-taken _ (λ b ws1. only-levels _ _ (at_most (omega arith)) ws1) ws0) vs
-table-levels production.Member mark tokens vs = pick-levels 1 _ (boxed-taken expr-taken) _ (λ a ws0. pick-levels 1 _ text-taken _ (λ b ws1. only-levels _ _ (at_most (omega arith)) ws1) ws0) vs
-table-levels production.Arrow mark tokens vs = pick-levels 1 _ (boxed-taken expr-taken) _ (λ a ws0. pick-levels 1 _ text-taken _ (λ b ws1. only-levels _ _ (at_most (omega arith)) ws1) ws0) vs
-table-levels production.PostIncrement mark tokens vs = pick-levels 1 _ (boxed-taken expr-taken) _ (λ a ws0. only-levels _ _ (at_most (omega arith)) ws0) vs
-table-levels production.PostDecrement mark tokens vs = pick-levels 1 _ (boxed-taken expr-taken) _ (λ a ws0. only-levels _ _ (at_most (omega arith)) ws0) vs
-table-levels production.PreIncrement mark tokens vs = pick-levels 1 _ (boxed-taken expr-taken) _ (λ a ws0. only-levels _ _ (at_most (omega arith)) ws0) vs
-table-levels production.PreDecrement mark tokens vs = pick-levels 1 _ (boxed-taken expr-taken) _ (λ a ws0. only-levels _ _ (at_most (omega arith)) ws0) vs
-table-levels production.Prefix mark tokens vs = pick-levels 1 _ (boxed-taken expr-taken) _ (λ a ws0. only-levels _ _ (raise _ _ _ (omega arith) (prefixed-levels mark (prefix_of (first tokens)) a)) ws0) vs
-table-levels production.SizeofExpression mark tokens vs = pick-levels 1 _ (boxed-taken expr-taken) _ (λ a ws0. only-levels _ _ (at_most (omega arith)) ws0) vs
-table-levels production.SizeofType mark tokens vs = pick-levels 1 _ type_name-taken _ (λ a ws0. only-levels _ _ (at_most (omega arith)) ws0) vs
-table-levels production.Cast mark tokens vs = pick-levels 1 _ type_name-taken _ (λ a ws0. pick-levels 1 _ (boxed-taken expr-taken) _ (λ b ws1. only-levels _ _ (at_most (omega arith)) ws1) ws0) vs
-table-levels (production.Binary o) mark tokens vs = pick-levels 1 _ (boxed-taken expr-taken) _ (λ a ws0. pick-levels 1 _ (boxed-taken expr-taken) _ (λ b ws1. only-levels _ _ (at_most (omega arith)) ws1) ws0) vs
-table-levels (production.Comparison o) mark tokens vs = pick-levels 1 _ (boxed-taken expr-taken) _ (λ a ws0. pick-levels 1 _ (boxed-taken expr-taken) _ (λ b ws1. only-levels _ _ (at_most (omega arith)) ws1) ws0) vs
-table-levels (production.Logical o) mark tokens vs = pick-levels 1 _ (boxed-taken expr-taken) _ (λ a ws0. pick-levels 1 _ (boxed-taken expr-taken) _ (λ b ws1. only-levels _ _ (at_most (omega arith)) ws1) ws0) vs
-table-levels production.Conditional mark tokens vs = pick-levels 1 _ (boxed-taken expr-taken) _ (λ a ws0. pick-levels 1 _ (boxed-taken expr-taken) _ (λ b ws1. pick-levels 1 _ (boxed-taken expr-taken) _ (λ c ws2. only-levels _ _ (at_most (omega arith)) ws2) ws1) ws0) vs
-table-levels production.Assign mark tokens vs = pick-levels 1 _ (boxed-taken expr-taken) _ (λ a ws0. pick-levels 1 _ (boxed-taken expr-taken) _ (λ b ws1. only-levels _ _ (at_most (omega arith)) ws1) ws0) vs
-table-levels (production.AssignWith o) mark tokens vs = pick-levels 1 _ (boxed-taken expr-taken) _ (λ a ws0. pick-levels 1 _ (boxed-taken expr-taken) _ (λ b ws1. only-levels _ _ (at_most (omega arith)) ws1) ws0) vs
-table-levels production.Comma mark tokens vs = pick-levels 1 _ (boxed-taken expr-taken) _ (λ a ws0. pick-levels 1 _ (boxed-taken expr-taken) _ (λ b ws1. only-levels _ _ (at_most (omega arith)) ws1) ws0) vs
+table-levels production.Parenthesised mark tokens vs = pick-levels 0 _ expr-taken _
+    (λ a ws0. only-levels _ _ (at_most (omega arith)) ws0) vs
+table-levels production.Index mark tokens vs = pick-levels 1 _ (boxed-taken expr-taken) _
+    (λ a ws0. pick-levels 1 _ (boxed-taken expr-taken) _ (λ b ws1. only-levels _ _ (at_most (omega arith)) ws1) ws0) vs
+table-levels production.CallFunction mark tokens vs = pick-levels 1 _ text-taken _
+    (λ a ws0. pick-levels 1 _ exprs-taken _ (λ b ws1. only-levels _ _ (at_most (omega arith)) ws1) ws0) vs
+table-levels production.Call mark tokens vs = pick-levels 1 _ (boxed-taken expr-taken) _
+    (λ a ws0. pick-levels 1 _ exprs-taken _ (λ b ws1. only-levels _ _ (at_most (omega arith)) ws1) ws0) vs
+table-levels production.Member mark tokens vs = pick-levels 1 _ (boxed-taken expr-taken) _
+    (λ a ws0. pick-levels 1 _ text-taken _ (λ b ws1. only-levels _ _ (at_most (omega arith)) ws1) ws0) vs
+table-levels production.Arrow mark tokens vs = pick-levels 1 _ (boxed-taken expr-taken) _
+    (λ a ws0. pick-levels 1 _ text-taken _ (λ b ws1. only-levels _ _ (at_most (omega arith)) ws1) ws0) vs
+table-levels production.PostIncrement mark tokens vs = pick-levels 1 _ (boxed-taken expr-taken) _
+    (λ a ws0. only-levels _ _ (at_most (omega arith)) ws0) vs
+table-levels production.PostDecrement mark tokens vs = pick-levels 1 _ (boxed-taken expr-taken) _
+    (λ a ws0. only-levels _ _ (at_most (omega arith)) ws0) vs
+table-levels production.PreIncrement mark tokens vs = pick-levels 1 _ (boxed-taken expr-taken) _
+    (λ a ws0. only-levels _ _ (at_most (omega arith)) ws0) vs
+table-levels production.PreDecrement mark tokens vs = pick-levels 1 _ (boxed-taken expr-taken) _
+    (λ a ws0. only-levels _ _ (at_most (omega arith)) ws0) vs
+table-levels production.Prefix mark tokens vs = pick-levels 1 _ (boxed-taken expr-taken) _
+    (λ a ws0. only-levels _ _ (raise _ _ _ (omega arith) (prefixed-levels mark (prefix_of (first tokens)) a)) ws0) vs
+table-levels production.SizeofExpression mark tokens vs = pick-levels 1 _ (boxed-taken expr-taken) _
+    (λ a ws0. only-levels _ _ (at_most (omega arith)) ws0) vs
+table-levels production.SizeofType mark tokens vs = pick-levels 1 _ type_name-taken _
+    (λ a ws0. only-levels _ _ (at_most (omega arith)) ws0) vs
+table-levels production.Cast mark tokens vs = pick-levels 1 _ type_name-taken _
+    (λ a ws0. pick-levels 1 _ (boxed-taken expr-taken) _ (λ b ws1. only-levels _ _ (at_most (omega arith)) ws1) ws0) vs
+table-levels (production.Binary o) mark tokens vs = pick-levels 1 _ (boxed-taken expr-taken) _
+    (λ a ws0. pick-levels 1 _ (boxed-taken expr-taken) _ (λ b ws1. only-levels _ _ (at_most (omega arith)) ws1) ws0) vs
+table-levels (production.Comparison o) mark tokens vs = pick-levels 1 _ (boxed-taken expr-taken) _
+    (λ a ws0. pick-levels 1 _ (boxed-taken expr-taken) _ (λ b ws1. only-levels _ _ (at_most (omega arith)) ws1) ws0) vs
+table-levels (production.Logical o) mark tokens vs = pick-levels 1 _ (boxed-taken expr-taken) _
+    (λ a ws0. pick-levels 1 _ (boxed-taken expr-taken) _ (λ b ws1. only-levels _ _ (at_most (omega arith)) ws1) ws0) vs
+table-levels production.Conditional mark tokens vs = pick-levels 1 _ (boxed-taken expr-taken) _
+    (λ a ws0. pick-levels 1 _ (boxed-taken expr-taken) _ (λ b ws1. pick-levels 1 _ (boxed-taken expr-taken) _
+    (λ c ws2. only-levels _ _ (at_most (omega arith)) ws2) ws1) ws0) vs
+table-levels production.Assign mark tokens vs = pick-levels 1 _ (boxed-taken expr-taken) _
+    (λ a ws0. pick-levels 1 _ (boxed-taken expr-taken) _ (λ b ws1. only-levels _ _ (at_most (omega arith)) ws1) ws0) vs
+table-levels (production.AssignWith o) mark tokens vs = pick-levels 1 _ (boxed-taken expr-taken) _
+    (λ a ws0. pick-levels 1 _ (boxed-taken expr-taken) _ (λ b ws1. only-levels _ _ (at_most (omega arith)) ws1) ws0) vs
+table-levels production.Comma mark tokens vs = pick-levels 1 _ (boxed-taken expr-taken) _
+    (λ a ws0. pick-levels 1 _ (boxed-taken expr-taken) _ (λ b ws1. only-levels _ _ (at_most (omega arith)) ws1) ws0) vs
 table-levels production.NoArguments mark tokens vs = only-levels _ _ (at_most (omega arith)) vs
-table-levels production.SomeArguments mark tokens vs = pick-levels 0 _ (boxed-taken expr-taken) _ (λ a ws0. pick-levels 0 _ (boxed-taken exprs-taken) _ (λ b ws1. only-levels _ _ (at_most (omega arith)) ws1) ws0) vs
+table-levels production.SomeArguments mark tokens vs = pick-levels 0 _ (boxed-taken expr-taken) _
+    (λ a ws0. pick-levels 0 _ (boxed-taken exprs-taken) _ (λ b ws1. only-levels _ _ (at_most (omega arith)) ws1) ws0) vs
 table-levels production.EndArguments mark tokens vs = only-levels _ _ (at_most (omega arith)) vs
-table-levels production.NextArgument mark tokens vs = pick-levels 0 _ (boxed-taken expr-taken) _ (λ a ws0. pick-levels 0 _ (boxed-taken exprs-taken) _ (λ b ws1. only-levels _ _ (at_most (omega arith)) ws1) ws0) vs
+table-levels production.NextArgument mark tokens vs = pick-levels 0 _ (boxed-taken expr-taken) _
+    (λ a ws0. pick-levels 0 _ (boxed-taken exprs-taken) _ (λ b ws1. only-levels _ _ (at_most (omega arith)) ws1) ws0) vs
 table-levels production.NoExpression mark tokens vs = only-levels _ _ (at_most (omega arith)) vs
-table-levels production.SomeExpression mark tokens vs = pick-levels 0 _ (boxed-taken expr-taken) _ (λ a ws0. only-levels _ _ (at_most (omega arith)) ws0) vs
-table-levels production.TypeName mark tokens vs = pick-levels 0 _ specifiers-taken _ (λ a ws0. pick-levels 0 _ pointers-taken _ (λ b ws1. only-levels _ _ (at_most (omega arith)) ws1) ws0) vs
-table-levels production.Specified mark tokens vs = pick-levels 0 _ specifiers-taken _ (λ a ws0. only-levels _ _ (flat (specified a (first tokens)) (λ s. value.Specifiers s) (λ _. refl) _) ws0) vs
-table-levels production.Based mark tokens vs = pick-levels 0 _ base-taken _ (λ a ws0. pick-levels 0 _ qualifiers-taken _ (λ b ws1. only-levels _ _ (at_most (omega arith)) ws1) ws0) vs
+table-levels production.SomeExpression mark tokens vs = pick-levels 0 _ (boxed-taken expr-taken) _
+    (λ a ws0. only-levels _ _ (at_most (omega arith)) ws0) vs
+table-levels production.TypeName mark tokens vs = pick-levels 0 _ specifiers-taken _
+    (λ a ws0. pick-levels 0 _ pointers-taken _ (λ b ws1. only-levels _ _ (at_most (omega arith)) ws1) ws0) vs
+table-levels production.Specified mark tokens vs = pick-levels 0 _ specifiers-taken _
+    (λ a ws0. only-levels _ _ (flat (specified a (first tokens)) (λ s. value.Specifiers s) (λ _. refl) _) ws0) vs
+table-levels production.Based mark tokens vs = pick-levels 0 _ base-taken _
+    (λ a ws0. pick-levels 0 _ qualifiers-taken _ (λ b ws1. only-levels _ _ (at_most (omega arith)) ws1) ws0) vs
 table-levels production.NoQualifiers mark tokens vs = only-levels _ _ (at_most (omega arith)) vs
-table-levels production.Qualified mark tokens vs = pick-levels 0 _ qualifiers-taken _ (λ a ws0. only-levels _ _ (flat (qualified a (first tokens)) (λ r. value.Qualifiers r) (λ _. refl) _) ws0) vs
+table-levels production.Qualified mark tokens vs = pick-levels 0 _ qualifiers-taken _
+    (λ a ws0. only-levels _ _ (flat (qualified a (first tokens)) (λ r. value.Qualifiers r) (λ _. refl) _) ws0) vs
 table-levels production.VoidBase mark tokens vs = only-levels _ _ (at_most (omega arith)) vs
 table-levels production.StructBase mark tokens vs = pick-levels 0 _ text-taken _ (λ a ws0. only-levels _ _ (at_most (omega arith)) ws0) vs
 table-levels production.StandardBase mark tokens vs = only-levels _ _ (standard-levels (first tokens) _) vs
 table-levels production.IntegerBase mark tokens vs = pick-levels 0 _ words-taken _ (λ a ws0. only-levels _ _ (at_most (omega arith)) ws0) vs
-table-levels (production.FirstWord w) mark tokens vs = only-levels _ _ (flat (worded no_words (first tokens)) (λ w. value.Words w) (λ _. refl) _) vs
-table-levels (production.NextWord all w) mark tokens vs = pick-levels 0 _ words-taken _ (λ a ws0. only-levels _ _ (flat (worded a (last tokens)) (λ v. value.Words v) (λ _. refl) _) ws0) vs
+table-levels (production.FirstWord w) mark tokens vs = only-levels _ _
+    (flat (worded no_words (first tokens)) (λ w. value.Words w) (λ _. refl) _) vs
+table-levels (production.NextWord all w) mark tokens vs = pick-levels 0 _ words-taken _
+    (λ a ws0. only-levels _ _ (flat (worded a (last tokens)) (λ v. value.Words v) (λ _. refl) _) ws0) vs
 table-levels production.NoPointers mark tokens vs = only-levels _ _ (at_most (omega arith)) vs
-table-levels production.Star mark tokens vs = pick-levels 0 _ (boxed-taken pointers-taken) _ (λ a ws0. only-levels _ _ (at_most (omega arith)) ws0) vs
-table-levels production.QualifiedPointer mark tokens vs = pick-levels 0 _ (boxed-taken pointers-taken) _ (λ a ws0. pick-levels 0 _ qualifiers-taken _ (λ b ws1. only-levels _ _ (at_most (omega arith)) ws1) ws0) vs
-table-levels production.NextPointer mark tokens vs = pick-levels 0 _ (boxed-taken pointers-taken) _ (λ a ws0. only-levels _ _ (at_most (omega arith)) ws0) vs
+table-levels production.Star mark tokens vs = pick-levels 0 _ (boxed-taken pointers-taken) _
+    (λ a ws0. only-levels _ _ (at_most (omega arith)) ws0) vs
+table-levels production.QualifiedPointer mark tokens vs = pick-levels 0 _ (boxed-taken pointers-taken) _
+    (λ a ws0. pick-levels 0 _ qualifiers-taken _ (λ b ws1. only-levels _ _ (at_most (omega arith)) ws1) ws0) vs
+table-levels production.NextPointer mark tokens vs = pick-levels 0 _ (boxed-taken pointers-taken) _
+    (λ a ws0. only-levels _ _ (at_most (omega arith)) ws0) vs
 table-levels production.NoLengths mark tokens vs = only-levels _ _ (at_most (omega arith)) vs
-table-levels production.Length mark tokens vs = pick-levels 0 _ (boxed-taken expr-taken) _ (λ a ws0. pick-levels 0 _ (boxed-taken exprs-taken) _ (λ b ws1. only-levels _ _ (at_most (omega arith)) ws1) ws0) vs
-table-levels production.Declarator mark tokens vs = pick-levels 0 _ pointers-taken _ (λ a ws0. pick-levels 0 _ text-taken _ (λ b ws1. pick-levels 0 _ exprs-taken _ (λ c ws2. only-levels _ _ (at_most (omega arith)) ws2) ws1) ws0) vs
+table-levels production.Length mark tokens vs = pick-levels 0 _ (boxed-taken expr-taken) _
+    (λ a ws0. pick-levels 0 _ (boxed-taken exprs-taken) _ (λ b ws1. only-levels _ _ (at_most (omega arith)) ws1) ws0) vs
+table-levels production.Declarator mark tokens vs = pick-levels 0 _ pointers-taken _
+    (λ a ws0. pick-levels 0 _ text-taken _ (λ b ws1. pick-levels 0 _ exprs-taken _
+    (λ c ws2. only-levels _ _ (at_most (omega arith)) ws2) ws1) ws0) vs
 table-levels production.EndDeclarators mark tokens vs = only-levels _ _ (at_most (omega arith)) vs
-table-levels production.NextDeclarator mark tokens vs = pick-levels 0 _ (boxed-taken declarator-taken) _ (λ a ws0. pick-levels 0 _ (boxed-taken declarators-taken) _ (λ b ws1. only-levels _ _ (at_most (omega arith)) ws1) ws0) vs
-table-levels production.StructMember mark tokens vs = pick-levels 0 _ specifiers-taken _ (λ a ws0. pick-levels 0 _ (boxed-taken declarator-taken) _ (λ b ws1. pick-levels 0 _ (boxed-taken declarators-taken) _ (λ c ws2. only-levels _ _ (at_most (omega arith)) ws2) ws1) ws0) vs
+table-levels production.NextDeclarator mark tokens vs = pick-levels 0 _ (boxed-taken declarator-taken) _
+    (λ a ws0. pick-levels 0 _ (boxed-taken declarators-taken) _ (λ b ws1. only-levels _ _ (at_most (omega arith)) ws1) ws0) vs
+table-levels production.StructMember mark tokens vs = pick-levels 0 _ specifiers-taken _
+    (λ a ws0. pick-levels 0 _ (boxed-taken declarator-taken) _
+    (λ b ws1. pick-levels 0 _ (boxed-taken declarators-taken) _ (λ c ws2. only-levels _ _ (at_most (omega arith)) ws2) ws1) ws0) vs
 table-levels production.EndMembers mark tokens vs = only-levels _ _ (at_most (omega arith)) vs
-table-levels production.NextMember mark tokens vs = pick-levels 0 _ (boxed-taken member-taken) _ (λ a ws0. pick-levels 0 _ (boxed-taken members-taken) _ (λ b ws1. only-levels _ _ (at_most (omega arith)) ws1) ws0) vs
+table-levels production.NextMember mark tokens vs = pick-levels 0 _ (boxed-taken member-taken) _
+    (λ a ws0. pick-levels 0 _ (boxed-taken members-taken) _ (λ b ws1. only-levels _ _ (at_most (omega arith)) ws1) ws0) vs
 table-levels production.NoLocation mark tokens vs = only-levels _ _ (at_most (omega arith)) vs
-table-levels production.Location mark tokens vs = pick-levels 0 _ (boxed-taken expr-taken) _ (λ a ws0. only-levels _ _ (at_most (omega arith)) ws0) vs
+table-levels production.Location mark tokens vs = pick-levels 0 _ (boxed-taken expr-taken) _
+    (λ a ws0. only-levels _ _ (at_most (omega arith)) ws0) vs
 table-levels production.NoInitial mark tokens vs = only-levels _ _ (at_most (omega arith)) vs
-table-levels production.Initial mark tokens vs = pick-levels 0 _ (boxed-taken init-taken) _ (λ a ws0. only-levels _ _ (at_most (omega arith)) ws0) vs
-table-levels production.InitialExpression mark tokens vs = pick-levels 0 _ (boxed-taken expr-taken) _ (λ a ws0. only-levels _ _ (at_most (omega arith)) ws0) vs
-table-levels production.Braced mark tokens vs = pick-levels 1 _ (boxed-taken init-taken) _ (λ a ws0. pick-levels 1 _ (boxed-taken inits-taken) _ (λ b ws1. only-levels _ _ (at_most (omega arith)) ws1) ws0) vs
+table-levels production.Initial mark tokens vs = pick-levels 0 _ (boxed-taken init-taken) _
+    (λ a ws0. only-levels _ _ (at_most (omega arith)) ws0) vs
+table-levels production.InitialExpression mark tokens vs = pick-levels 0 _ (boxed-taken expr-taken) _
+    (λ a ws0. only-levels _ _ (at_most (omega arith)) ws0) vs
+table-levels production.Braced mark tokens vs = pick-levels 1 _ (boxed-taken init-taken) _
+    (λ a ws0. pick-levels 1 _ (boxed-taken inits-taken) _ (λ b ws1. only-levels _ _ (at_most (omega arith)) ws1) ws0) vs
 table-levels production.EndInits mark tokens vs = only-levels _ _ (at_most (omega arith)) vs
 table-levels production.CommaInits mark tokens vs = pick-levels 0 _ inits-taken _ (λ a ws0. only-levels _ _ (at_most (omega arith)) ws0) vs
 table-levels production.TrailingComma mark tokens vs = only-levels _ _ (at_most (omega arith)) vs
-table-levels production.NextInit mark tokens vs = pick-levels 0 _ (boxed-taken init-taken) _ (λ a ws0. pick-levels 0 _ (boxed-taken inits-taken) _ (λ b ws1. only-levels _ _ (at_most (omega arith)) ws1) ws0) vs
-table-levels production.InitDeclarator mark tokens vs = pick-levels 0 _ declarator-taken _ (λ a ws0. pick-levels 0 _ optional_expr-taken _ (λ b ws1. pick-levels 0 _ optional_init-taken _ (λ c ws2. only-levels _ _ (at_most (omega arith)) ws2) ws1) ws0) vs
+table-levels production.NextInit mark tokens vs = pick-levels 0 _ (boxed-taken init-taken) _
+    (λ a ws0. pick-levels 0 _ (boxed-taken inits-taken) _ (λ b ws1. only-levels _ _ (at_most (omega arith)) ws1) ws0) vs
+table-levels production.InitDeclarator mark tokens vs = pick-levels 0 _ declarator-taken _
+    (λ a ws0. pick-levels 0 _ optional_expr-taken _ (λ b ws1. pick-levels 0 _ optional_init-taken _
+    (λ c ws2. only-levels _ _ (at_most (omega arith)) ws2) ws1) ws0) vs
 table-levels production.EndInitDeclarators mark tokens vs = only-levels _ _ (at_most (omega arith)) vs
-table-levels production.NextInitDeclarator mark tokens vs = pick-levels 0 _ (boxed-taken init_declarator-taken) _ (λ a ws0. pick-levels 0 _ (boxed-taken init_declarators-taken) _ (λ b ws1. only-levels _ _ (at_most (omega arith)) ws1) ws0) vs
-table-levels production.LocalObject mark tokens vs = pick-levels 1 _ specifiers-taken _ (λ a ws0. pick-levels 1 _ (boxed-taken init_declarator-taken) _ (λ b ws1. pick-levels 1 _ (boxed-taken init_declarators-taken) _ (λ c ws2. only-levels _ _ (at_most (omega arith)) ws2) ws1) ws0) vs
+table-levels production.NextInitDeclarator mark tokens vs = pick-levels 0 _ (boxed-taken init_declarator-taken) _
+    (λ a ws0. pick-levels 0 _ (boxed-taken init_declarators-taken) _ (λ b ws1. only-levels _ _ (at_most (omega arith)) ws1) ws0) vs
+table-levels production.LocalObject mark tokens vs = pick-levels 1 _ specifiers-taken _
+    (λ a ws0. pick-levels 1 _ (boxed-taken init_declarator-taken) _
+    (λ b ws1. pick-levels 1 _ (boxed-taken init_declarators-taken) _ (λ c ws2. only-levels _ _ (at_most (omega arith)) ws2) ws1) ws0) vs
 table-levels production.Block mark tokens vs = pick-levels 1 _ items-taken _ (λ a ws0. only-levels _ _ (at_most (omega arith)) ws0) vs
-table-levels production.ExpressionStatement mark tokens vs = pick-levels 1 _ optional_expr-taken _ (λ a ws0. only-levels _ _ (at_most (omega arith)) ws0) vs
-table-levels production.If mark tokens vs = pick-levels 1 _ (boxed-taken expr-taken) _ (λ a ws0. pick-levels 1 _ (boxed-taken stmt-taken) _ (λ b ws1. pick-levels 1 _ optional_stmt-taken _ (λ c ws2. only-levels _ _ (at_most (omega (arith, if-levels a b c))) ws2) ws1) ws0) vs
+table-levels production.ExpressionStatement mark tokens vs =
+    pick-levels 1 _ optional_expr-taken _ (λ a ws0. only-levels _ _ (at_most (omega arith)) ws0) vs
+table-levels production.If mark tokens vs = pick-levels 1 _ (boxed-taken expr-taken) _
+    (λ a ws0. pick-levels 1 _ (boxed-taken stmt-taken) _ (λ b ws1. pick-levels 1 _ optional_stmt-taken _
+    (λ c ws2. only-levels _ _ (at_most (omega (arith, if-levels a b c))) ws2) ws1) ws0) vs
 table-levels production.NoElse mark tokens vs = only-levels _ _ (at_most (omega arith)) vs
-table-levels production.Else mark tokens vs = pick-levels 0 _ (boxed-taken stmt-taken) _ (λ a ws0. only-levels _ _ (at_most (omega arith)) ws0) vs
-table-levels production.While mark tokens vs = pick-levels 1 _ (boxed-taken expr-taken) _ (λ a ws0. pick-levels 1 _ (boxed-taken stmt-taken) _ (λ b ws1. only-levels _ _ (at_most (omega arith)) ws1) ws0) vs
-table-levels production.Do mark tokens vs = pick-levels 1 _ (boxed-taken stmt-taken) _ (λ a ws0. pick-levels 1 _ (boxed-taken expr-taken) _ (λ b ws1. only-levels _ _ (at_most (omega arith)) ws1) ws0) vs
-table-levels production.ForObject mark tokens vs = pick-levels 0 _ (boxed-taken object-taken) _ (λ a ws0. only-levels _ _ (at_most (omega arith)) ws0) vs
-table-levels production.ForExpression mark tokens vs = pick-levels 0 _ optional_expr-taken _ (λ a ws0. only-levels _ _ (at_most (omega arith)) ws0) vs
-table-levels production.For mark tokens vs = pick-levels 1 _ for_first-taken _ (λ a ws0. pick-levels 1 _ optional_expr-taken _ (λ b ws1. pick-levels 1 _ optional_expr-taken _ (λ c ws2. pick-levels 1 _ (boxed-taken stmt-taken) _ (λ d ws3. only-levels _ _ (at_most (omega arith)) ws3) ws2) ws1) ws0) vs
-table-levels production.Switch mark tokens vs = pick-levels 1 _ (boxed-taken expr-taken) _ (λ a ws0. pick-levels 1 _ switch_items-taken _ (λ b ws1. only-levels _ _ (at_most (omega arith)) ws1) ws0) vs
+table-levels production.Else mark tokens vs = pick-levels 0 _ (boxed-taken stmt-taken) _
+    (λ a ws0. only-levels _ _ (at_most (omega arith)) ws0) vs
+table-levels production.While mark tokens vs = pick-levels 1 _ (boxed-taken expr-taken) _
+    (λ a ws0. pick-levels 1 _ (boxed-taken stmt-taken) _ (λ b ws1. only-levels _ _ (at_most (omega arith)) ws1) ws0) vs
+table-levels production.Do mark tokens vs = pick-levels 1 _ (boxed-taken stmt-taken) _
+    (λ a ws0. pick-levels 1 _ (boxed-taken expr-taken) _ (λ b ws1. only-levels _ _ (at_most (omega arith)) ws1) ws0) vs
+table-levels production.ForObject mark tokens vs = pick-levels 0 _ (boxed-taken object-taken) _
+    (λ a ws0. only-levels _ _ (at_most (omega arith)) ws0) vs
+table-levels production.ForExpression mark tokens vs = pick-levels 0 _ optional_expr-taken _
+    (λ a ws0. only-levels _ _ (at_most (omega arith)) ws0) vs
+table-levels production.For mark tokens vs = pick-levels 1 _ for_first-taken _
+    (λ a ws0. pick-levels 1 _ optional_expr-taken _ (λ b ws1. pick-levels 1 _ optional_expr-taken _
+    (λ c ws2. pick-levels 1 _ (boxed-taken stmt-taken) _ (λ d ws3. only-levels _ _ (at_most (omega arith)) ws3) ws2) ws1) ws0) vs
+table-levels production.Switch mark tokens vs = pick-levels 1 _ (boxed-taken expr-taken) _
+    (λ a ws0. pick-levels 1 _ switch_items-taken _ (λ b ws1. only-levels _ _ (at_most (omega arith)) ws1) ws0) vs
 table-levels production.NoSwitchItems mark tokens vs = only-levels _ _ (at_most (omega arith)) vs
-table-levels production.FirstLabel mark tokens vs = pick-levels 0 _ label-taken _ (λ a ws0. pick-levels 0 _ (boxed-taken switch_items-taken) _ (λ b ws1. only-levels _ _ (at_most (omega arith)) ws1) ws0) vs
+table-levels production.FirstLabel mark tokens vs = pick-levels 0 _ label-taken _
+    (λ a ws0. pick-levels 0 _ (boxed-taken switch_items-taken) _ (λ b ws1. only-levels _ _ (at_most (omega arith)) ws1) ws0) vs
 table-levels production.EndSwitchItems mark tokens vs = only-levels _ _ (at_most (omega arith)) vs
-table-levels production.NextLabel mark tokens vs = pick-levels 0 _ label-taken _ (λ a ws0. pick-levels 0 _ (boxed-taken switch_items-taken) _ (λ b ws1. only-levels _ _ (at_most (omega arith)) ws1) ws0) vs
-table-levels production.NextSwitchStatement mark tokens vs = pick-levels 0 _ (boxed-taken stmt-taken) _ (λ a ws0. pick-levels 0 _ (boxed-taken switch_items-taken) _ (λ b ws1. only-levels _ _ (at_most (omega arith)) ws1) ws0) vs
-table-levels production.CaseLabel mark tokens vs = pick-levels 1 _ (boxed-taken expr-taken) _ (λ a ws0. only-levels _ _ (at_most (omega arith)) ws0) vs
+table-levels production.NextLabel mark tokens vs = pick-levels 0 _ label-taken _
+    (λ a ws0. pick-levels 0 _ (boxed-taken switch_items-taken) _ (λ b ws1. only-levels _ _ (at_most (omega arith)) ws1) ws0) vs
+table-levels production.NextSwitchStatement mark tokens vs =
+    pick-levels 0 _ (boxed-taken stmt-taken) _ (λ a ws0. pick-levels 0 _ (boxed-taken switch_items-taken) _
+    (λ b ws1. only-levels _ _ (at_most (omega arith)) ws1) ws0) vs
+table-levels production.CaseLabel mark tokens vs = pick-levels 1 _ (boxed-taken expr-taken) _
+    (λ a ws0. only-levels _ _ (at_most (omega arith)) ws0) vs
 table-levels production.DefaultLabel mark tokens vs = only-levels _ _ (at_most (omega arith)) vs
 table-levels production.Break mark tokens vs = only-levels _ _ (at_most (omega arith)) vs
 table-levels production.Continue mark tokens vs = only-levels _ _ (at_most (omega arith)) vs
-table-levels production.Return mark tokens vs = pick-levels 1 _ optional_expr-taken _ (λ a ws0. only-levels _ _ (at_most (omega arith)) ws0) vs
+table-levels production.Return mark tokens vs = pick-levels 1 _ optional_expr-taken _
+    (λ a ws0. only-levels _ _ (at_most (omega arith)) ws0) vs
 table-levels production.RegionName mark tokens vs = only-levels _ _ (literal-levels (first tokens) _) vs
-table-levels production.Region mark tokens vs = pick-levels 1 _ text-taken _ (λ a ws0. pick-levels 1 _ items-taken _ (λ b ws1. only-levels _ _ (at_most (omega arith)) ws1) ws0) vs
+table-levels production.Region mark tokens vs = pick-levels 1 _ text-taken _
+    (λ a ws0. pick-levels 1 _ items-taken _ (λ b ws1. only-levels _ _ (at_most (omega arith)) ws1) ws0) vs
 table-levels production.EndItems mark tokens vs = only-levels _ _ (at_most (omega arith)) vs
-table-levels production.NextObject mark tokens vs = pick-levels 0 _ (boxed-taken object-taken) _ (λ a ws0. pick-levels 0 _ (boxed-taken items-taken) _ (λ b ws1. only-levels _ _ (at_most (omega arith)) ws1) ws0) vs
-table-levels production.NextStatement mark tokens vs = pick-levels 0 _ (boxed-taken stmt-taken) _ (λ a ws0. pick-levels 0 _ (boxed-taken items-taken) _ (λ b ws1. only-levels _ _ (at_most (omega arith)) ws1) ws0) vs
-table-levels production.StructUnit mark tokens vs = pick-levels 1 _ text-taken _ (λ a ws0. pick-levels 1 _ (boxed-taken member-taken) _ (λ b ws1. pick-levels 1 _ (boxed-taken members-taken) _ (λ c ws2. only-levels _ _ (at_most (omega arith)) ws2) ws1) ws0) vs
-table-levels production.RegisterUnit mark tokens vs = pick-levels 1 _ register_type-taken _ (λ a ws0. only-levels _ _ (at_most (omega arith)) ws0) vs
+table-levels production.NextObject mark tokens vs = pick-levels 0 _ (boxed-taken object-taken) _
+    (λ a ws0. pick-levels 0 _ (boxed-taken items-taken) _ (λ b ws1. only-levels _ _ (at_most (omega arith)) ws1) ws0) vs
+table-levels production.NextStatement mark tokens vs = pick-levels 0 _ (boxed-taken stmt-taken) _
+    (λ a ws0. pick-levels 0 _ (boxed-taken items-taken) _ (λ b ws1. only-levels _ _ (at_most (omega arith)) ws1) ws0) vs
+table-levels production.StructUnit mark tokens vs = pick-levels 1 _ text-taken _
+    (λ a ws0. pick-levels 1 _ (boxed-taken member-taken) _
+    (λ b ws1. pick-levels 1 _ (boxed-taken members-taken) _ (λ c ws2. only-levels _ _ (at_most (omega arith)) ws2) ws1) ws0) vs
+table-levels production.RegisterUnit mark tokens vs = pick-levels 1 _ register_type-taken _
+    (λ a ws0. only-levels _ _ (at_most (omega arith)) ws0) vs
 table-levels production.UnsignedInt mark tokens vs = only-levels _ _ (at_most (omega arith)) vs
 table-levels production.RegisterUint32 mark tokens vs = only-levels _ _ (at_most (omega arith)) vs
-table-levels production.External mark tokens vs = pick-levels 1 _ specifiers-taken _ (λ a ws0. pick-levels 1 _ pointers-taken _ (λ b ws1. pick-levels 1 _ text-taken _ (λ c ws2. pick-levels 1 _ external_rest-taken _ (λ d ws3. only-levels _ _ (at_most (omega (arith, external-levels a b c d))) ws3) ws2) ws1) ws0) vs
-table-levels production.ObjectRest mark tokens vs = pick-levels 0 _ exprs-taken _ (λ a ws0. pick-levels 0 _ optional_expr-taken _ (λ b ws1. pick-levels 0 _ optional_init-taken _ (λ c ws2. pick-levels 0 _ init_declarators-taken _ (λ d ws3. only-levels _ _ (at_most (omega arith)) ws3) ws2) ws1) ws0) vs
-table-levels production.FunctionRest mark tokens vs = pick-levels 0 _ parameters-taken _ (λ a ws0. pick-levels 0 _ function_end-taken _ (λ b ws1. only-levels _ _ (at_most (omega arith)) ws1) ws0) vs
+table-levels production.External mark tokens vs = pick-levels 1 _ specifiers-taken _
+    (λ a ws0. pick-levels 1 _ pointers-taken _ (λ b ws1. pick-levels 1 _ text-taken _
+    (λ c ws2. pick-levels 1 _ external_rest-taken _ (λ d ws3. only-levels _ _ (at_most (omega (arith, external-levels a b c d)))
+    ws3) ws2) ws1) ws0) vs
+table-levels production.ObjectRest mark tokens vs = pick-levels 0 _ exprs-taken _
+    (λ a ws0. pick-levels 0 _ optional_expr-taken _ (λ b ws1. pick-levels 0 _ optional_init-taken _
+    (λ c ws2. pick-levels 0 _ init_declarators-taken _ (λ d ws3. only-levels _ _ (at_most (omega arith)) ws3) ws2) ws1) ws0) vs
+table-levels production.FunctionRest mark tokens vs = pick-levels 0 _ parameters-taken _
+    (λ a ws0. pick-levels 0 _ function_end-taken _ (λ b ws1. only-levels _ _ (at_most (omega arith)) ws1) ws0) vs
 table-levels production.PrototypeEnd mark tokens vs = only-levels _ _ (at_most (omega arith)) vs
-table-levels production.FunctionBody mark tokens vs = pick-levels 0 _ items-taken _ (λ a ws0. only-levels _ _ (at_most (omega arith)) ws0) vs
+table-levels production.FunctionBody mark tokens vs = pick-levels 0 _ items-taken _
+    (λ a ws0. only-levels _ _ (at_most (omega arith)) ws0) vs
 table-levels production.NoParameters mark tokens vs = only-levels _ _ (at_most (omega arith)) vs
 table-levels production.VoidParameters mark tokens vs = only-levels _ _ (at_most (omega arith)) vs
-table-levels production.SomeParameters mark tokens vs = pick-levels 0 _ (boxed-taken parameter-taken) _ (λ a ws0. pick-levels 0 _ (boxed-taken parameter_list-taken) _ (λ b ws1. only-levels _ _ (at_most (omega arith)) ws1) ws0) vs
-table-levels production.Parameter mark tokens vs = pick-levels 0 _ specifiers-taken _ (λ a ws0. pick-levels 0 _ pointers-taken _ (λ b ws1. pick-levels 0 _ text-taken _ (λ c ws2. pick-levels 0 _ exprs-taken _ (λ d ws3. only-levels _ _ (at_most (omega arith)) ws3) ws2) ws1) ws0) vs
-table-levels production.ArrayParameter mark tokens vs = pick-levels 0 _ specifiers-taken _ (λ a ws0. pick-levels 0 _ pointers-taken _ (λ b ws1. pick-levels 0 _ text-taken _ (λ c ws2. only-levels _ _ (at_most (omega arith)) ws2) ws1) ws0) vs
+table-levels production.SomeParameters mark tokens vs = pick-levels 0 _ (boxed-taken parameter-taken) _
+    (λ a ws0. pick-levels 0 _ (boxed-taken parameter_list-taken) _ (λ b ws1. only-levels _ _ (at_most (omega arith)) ws1) ws0) vs
+table-levels production.Parameter mark tokens vs = pick-levels 0 _ specifiers-taken _
+    (λ a ws0. pick-levels 0 _ pointers-taken _ (λ b ws1. pick-levels 0 _ text-taken _
+    (λ c ws2. pick-levels 0 _ exprs-taken _ (λ d ws3. only-levels _ _ (at_most (omega arith)) ws3) ws2) ws1) ws0) vs
+table-levels production.ArrayParameter mark tokens vs = pick-levels 0 _ specifiers-taken _
+    (λ a ws0. pick-levels 0 _ pointers-taken _ (λ b ws1. pick-levels 0 _ text-taken _
+    (λ c ws2. only-levels _ _ (at_most (omega arith)) ws2) ws1) ws0) vs
 table-levels production.EndParameters mark tokens vs = only-levels _ _ (at_most (omega arith)) vs
-table-levels production.NextParameter mark tokens vs = pick-levels 0 _ (boxed-taken parameter-taken) _ (λ a ws0. pick-levels 0 _ (boxed-taken parameter_list-taken) _ (λ b ws1. only-levels _ _ (at_most (omega arith)) ws1) ws0) vs
+table-levels production.NextParameter mark tokens vs = pick-levels 0 _ (boxed-taken parameter-taken) _
+    (λ a ws0. pick-levels 0 _ (boxed-taken parameter_list-taken) _ (λ b ws1. only-levels _ _ (at_most (omega arith)) ws1) ws0) vs
 table-levels production.EndUnits mark tokens vs = only-levels _ _ (at_most (omega arith)) vs
-table-levels production.NextUnit mark tokens vs = pick-levels 0 _ (boxed-taken unit-taken) _ (λ a ws0. pick-levels 0 _ (boxed-taken units-taken) _ (λ b ws1. only-levels _ _ (at_most (omega arith)) ws1) ws0) vs
+table-levels production.NextUnit mark tokens vs = pick-levels 0 _ (boxed-taken unit-taken) _
+    (λ a ws0. pick-levels 0 _ (boxed-taken units-taken) _ (λ b ws1. only-levels _ _ (at_most (omega arith)) ws1) ws0) vs
 table-levels production.Source mark tokens vs = pick-levels 0 _ units-taken _ (λ a ws0. only-levels _ _ (at_most (omega arith)) ws0) vs

@@ -1,5 +1,6 @@
 -- A list of tokens has one tree, or one first fault, and not both.
-use Rattle.std.proofs.Common.{◌≡◌, ◌+◌, ◌-◌, ◌<◌, ◌≤◌, ◌⊎◌, inl, inr, ℕ, zero, suc, List, [], ◌∷◌, ◌++◌, take, drop, Some, sym, ap, subst, refl, ◌∙◌, arith, append_assoc}
+use Rattle.std.proofs.Common.{◌≡◌, ◌+◌, ◌-◌, ◌<◌, ◌≤◌, ◌⊎◌, inl, inr, ℕ, zero, suc, List, [], ◌∷◌, ◌++◌, take}
+use Rattle.std.proofs.Common.{drop, Some, sym, ap, subst, refl, ◌∙◌, arith, append_assoc}
 use Rattle.std.specs.Prelude.{slice_get, Contains}
 use Rattle.std.proofs.lemmas.List.{take-append-drop}
 use Rattle.std.proofs.lemmas.Bool.{cases_order}
@@ -31,14 +32,16 @@ take-more xs zero b h = let e : b ≡ b - 0 = omega arith in ap (λ n. take n xs
 take-more xs (suc a) zero h = absurd (omega arith)
 take-more [] (suc a) (suc b) h = sym (take-none (suc b - suc a))
 take-more (x ∷ xs) (suc a) (suc b) h =
-    ap (λ ys. x ∷ ys) (take-more xs a b (omega arith)) ∙ ap (λ n. x ∷ (take a xs ++ take n (drop a xs))) (let e : b - a ≡ suc b - suc a = omega arith in e)
+    ap (λ ys. x ∷ ys) (take-more xs a b (omega arith)) ∙ ap (λ n. x ∷ (take a xs ++ take n (drop a xs)))
+    (let e : b - a ≡ suc b - suc a = omega arith in e)
 
 not-before : (tokens : List Token) (a b : ℕ) → IsFirstFault tokens a → IsFirstFault tokens b → a < b → ⊥
 not-before tokens a b first second less =
     let front = take-more tokens (a + 1) b (omega arith) in
     let some = second.goes_on in
     first.stops (take (b - (a + 1)) (drop (a + 1) tokens) ++ some.0) some.1
-    (subst (IsText some.1) (ap (λ xs. xs ++ some.0) front ∙ append_assoc (take (a + 1) tokens) (take (b - (a + 1)) (drop (a + 1) tokens)) some.0) some.2)
+    (subst (IsText some.1) (ap (λ xs. xs ++ some.0) front ∙ append_assoc (take (a + 1) tokens)
+    (take (b - (a + 1)) (drop (a + 1) tokens)) some.0) some.2)
 
 one-by : (tokens : List Token) (a b : ℕ) → IsFirstFault tokens a → IsFirstFault tokens b → (a ≡ b) ⊎ ((a < b) ⊎ (b < a)) → a ≡ b
 one-by tokens a b first second (inl same) = same

@@ -1,5 +1,6 @@
 -- A source in which no node stands too deep has units of few enough levels.
-use Rattle.std.proofs.Common.{◌≡◌, ℕ, ◌+◌, ◌≤◌, max, Bool, true, false, nat_eq, if◌then◌else◌, List, [], ◌∷◌, ◌++◌, length, Option, Some, None, refl, subst, arith}
+use Rattle.std.proofs.Common.{◌≡◌, ℕ, ◌+◌, ◌≤◌, max, Bool, true, false, nat_eq, if◌then◌else◌, List, [], ◌∷◌}
+use Rattle.std.proofs.Common.{◌++◌, length, Option, Some, None, refl, subst, arith}
 use Rattle.std.proofs.lemmas.Bool.{eq-eqb}
 use Rattle.std.proofs.lemmas.Option.{same_Some}
 use Rattle.csyn.specs.declared.token.Token.{Token}
@@ -43,7 +44,8 @@ more-levels m n _ l (all_at_most h) = all_at_most (omega arith)
 made-levels : (p : Production) (number : ℕ) (tokens : List Token) (n : ℕ) (os : Option (List Value)) → AllAtMost n os
     → AtMost (own_nodes p + n) (made_of p (place_of number tokens) os)
 made-levels p number tokens n _ not_all = unmade
-made-levels p number tokens n _ (all_at_most {vs = vs} h) = raise _ _ _ (omega arith) (table-levels p (mark_at (place_of number tokens)) tokens vs)
+made-levels p number tokens n _ (all_at_most {vs = vs} h) = raise _ _ _ (omega arith)
+    (table-levels p (mark_at (place_of number tokens)) tokens vs)
 
 mutual
   unfolding height heights value_of values
@@ -98,14 +100,17 @@ mutual
   -- where no node stands too deep, no way down is too long
   pub few-height : (level at : ℕ) (w : Written) → deep level at w ≡ [] → level ≤ 256 → level + height w ≤ 256
   few-height level at (leaf _) h l = omega arith
-  few-height level at (node p parts) h l = step-height (is_node p) (own_nodes p) level at (heights parts) (one-or-none p) (first-empty _ _ h) l
+  few-height level at (node p parts) h l = step-height (is_node p) (own_nodes p) level at (heights parts) (one-or-none p)
+      (first-empty _ _ h) l
       (λ k. few-heights (below (is_node p) level) at parts (second-empty _ _ h) k)
 
   pub few-heights : (level at : ℕ) (parts : Forest) → deep_of level at parts ≡ [] → level ≤ 256 → level + heights parts ≤ 256
   few-heights level at none h l = omega arith
   few-heights level at (more w parts) h l =
-      let a : level + height w ≤ 256 = few-height level at w (first-empty (deep level at w) (deep_of level (at + length (spell w)) parts) h) l in
-      let b : level + heights parts ≤ 256 = few-heights level (at + length (spell w)) parts (second-empty (deep level at w) (deep_of level (at + length (spell w)) parts) h) l in
+      let a : level + height w ≤ 256 = few-height level at w
+      (first-empty (deep level at w) (deep_of level (at + length (spell w)) parts) h) l in
+      let b : level + heights parts ≤ 256 = few-heights level (at + length (spell w)) parts
+      (second-empty (deep level at w) (deep_of level (at + length (spell w)) parts) h) l in
       omega arith
 
 of-units : (n : ℕ) (o : Option Value) (u : Units) → AtMost n o → o ≡ Some (value.Units u) → units_levels u ≤ n

@@ -1,5 +1,6 @@
 -- What a turn of the loop does to the levels on its stack, whose top is the last.
-use Rattle.std.specs.Prelude.{◌≡◌, ℕ, ◌+◌, ◌≤◌, Bool, true, false, cond, List, [], ◌∷◌, ◌++◌, length, reverse, replicate, Option, Some, None, refl, All, MatchOption, option_to_list, unwrap_or}
+use Rattle.std.specs.Prelude.{◌≡◌, ℕ, ◌+◌, ◌≤◌, Bool, true, false, cond, List, [], ◌∷◌, ◌++◌, length, reverse, replicate}
+use Rattle.std.specs.Prelude.{Option, Some, None, refl, All, MatchOption, option_to_list, unwrap_or}
 use Rattle.std.proofs.Common.{arith, sym, ap, subst, zero, suc, ◌∙◌, add-one}
 use Rattle.std.proofs.lemmas.Bool.{ne_eqb}
 use Rattle.std.proofs.lemmas.List.{append-nil, replicate_more, reverse-append, nil_from_length}
@@ -13,7 +14,8 @@ use Rattle.cparse.proofs.Walk.{walked-append}
 reverse-replicate : (n level : ℕ) → reverse (replicate n level) ≡ replicate n level
 reverse-replicate zero level = refl
 reverse-replicate (suc n) level =
-    reverse-append (level ∷ []) (replicate n level) ∙ ap (λ levels. levels ++ level ∷ []) (reverse-replicate n level) ∙ replicate_more n level ∙ ap (λ m. replicate m level) (add-one n)
+    reverse-append (level ∷ []) (replicate n level) ∙ ap (λ levels. levels ++ level ∷ []) (reverse-replicate n level)
+    ∙ replicate_more n level ∙ ap (λ m. replicate m level) (add-one n)
 
 -- the pass with the parts' levels put on the stack
 pushed : (rest : List ℕ) (parts under : ℕ) → reverse (rest ++ replicate parts under) ≡ replicate parts under ++ reverse rest
@@ -45,12 +47,15 @@ pub stepped : (left others : List Entry) (entry : Entry) (stack rest after : Lis
     → after ≡ rest ++ replicate parts under → walked others (passed after next) ≡ walked left (passed stack found)
 unfolding walked
 stepped left others entry stack rest after level under parts found next split pops under-is next-is parts-are after-is =
-    let levels-are : reverse after ≡ replicate (parts_among (template entry.production)) (below (is_node entry.production) level) ++ reverse rest =
+    let levels-are : reverse after ≡ replicate (parts_among (template entry.production)) (below (is_node entry.production) level)
+    ++ reverse rest =
     ap reverse after-is ∙ pushed rest parts under ∙ ap (λ n. replicate n under ++ reverse rest) parts-are
     ∙ ap (λ n. replicate (parts_among (template entry.production)) n ++ reverse rest) under-is in
     let here : passed after next ≡ turned_at entry level (reverse rest) found =
     ap (λ levels. let p : Pass = record { levels = levels; found = next } in p) levels-are
-    ∙ ap (λ place. let p : Pass = record { levels = replicate (parts_among (template entry.production)) (below (is_node entry.production) level) ++ reverse rest; found = place } in p) next-is in
+    ∙ ap (λ place.
+    let levels = replicate (parts_among (template entry.production)) (below (is_node entry.production) level) ++ reverse rest in
+    let p : Pass = record { levels = levels; found = place } in p) next-is in
     let there : turned_at entry level (reverse rest) found ≡ turned entry (passed stack found) =
     ap (λ n. turned_at entry n (reverse rest) found) (sym pops.next)
     ∙ ap (λ levels. turned_at entry (next_level (reverse stack)) levels found) (sym pops.others) in
@@ -61,7 +66,8 @@ below-more : (own : Bool) (level : ℕ) → below own level ≤ level + 1
 below-more true level = omega arith
 below-more false level = omega arith
 
-level-bound : (popped : Option ℕ) (left total : ℕ) → left ≤ total → MatchOption popped Unit (λ level. level + left ≤ total) → unwrap_or popped 0 + left ≤ total
+level-bound : (popped : Option ℕ) (left total : ℕ) → left ≤ total → MatchOption popped Unit (λ level. level + left ≤ total)
+    → unwrap_or popped 0 + left ≤ total
 level-bound None left total within top = omega arith
 level-bound (Some level) left total within top = top
 
@@ -80,13 +86,15 @@ bounded total left others stack rest after popped own under parts within one spl
     (All-replicate (λ level. level + others ≤ total) parts under under-bound))
 
 -- what the loop notes
-pub noted : (own : Bool) (level first : ℕ) (found next : Option ℕ) → own ≡ true → level ≡ 256 → next ≡ Some first → next ≡ found_by own level first found
+pub noted : (own : Bool) (level first : ℕ) (found next : Option ℕ) → own ≡ true → level ≡ 256 → next ≡ Some first
+    → next ≡ found_by own level first found
 noted own level first found next is-own is-level is-next =
     is-next ∙ sym (ap (λ n. found_by true n first found) is-level) ∙ ap (λ b. found_by b level first found) (sym is-own)
 
 pub passed-by : (own : Bool) (level first : ℕ) (found next : Option ℕ) → own ≡ false → next ≡ found → next ≡ found_by own level first found
 passed-by own level first found next no-own is-next = is-next ∙ ap (λ b. found_by b level first found) (sym no-own)
 
-pub higher : (own : Bool) (level first : ℕ) (found next : Option ℕ) → own ≡ true → (level ≡ 256 → ⊥) → next ≡ found → next ≡ found_by own level first found
+pub higher : (own : Bool) (level first : ℕ) (found next : Option ℕ) → own ≡ true → (level ≡ 256 → ⊥) → next ≡ found
+    → next ≡ found_by own level first found
 higher own level first found next is-own other is-next =
     is-next ∙ sym (ap (λ b. cond b (Some first) found) (ne_eqb level 256 other)) ∙ ap (λ b. found_by b level first found) (sym is-own)

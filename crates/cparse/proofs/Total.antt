@@ -1,5 +1,6 @@
 -- Each proper tree of a production in use has a value, of the kind that its class has.
-use Rattle.std.proofs.Common.{◌≡◌, ℕ, ◌+◌, ◌-◌, true, List, [], ◌∷◌, ◌++◌, length, Option, Some, slice_get, refl, sym, subst, arith, length-append}
+use Rattle.std.proofs.Common.{◌≡◌, ℕ, ◌+◌, ◌-◌, true, List, [], ◌∷◌, ◌++◌, length, Option, Some}
+use Rattle.std.proofs.Common.{slice_get, refl, sym, subst, arith, length-append}
 use Rattle.std.specs.Cmp.{first_so, second_so}
 use Rattle.csyn.specs.declared.token.Token.{Token}
 use Rattle.csyn.specs.declared.unit.Units.{Units}
@@ -15,7 +16,8 @@ use Rattle.cparts.specs.declared.value.Value.TheVariants as value
 use Rattle.caction.specs.Make.{mark_at}
 use Rattle.cparse.specs.Nodes.{nodes, nodes_of}
 use Rattle.cparse.specs.Tree.{value as value_of, values, place_of, in_front, made as made_of}
-use Rattle.cparse.proofs.Shape.{Shape, units, nothing, is_units, shape, shapes, under-shape, Fits, end, and, Made, made, unused, is_used, all_used}
+use Rattle.cparse.proofs.Shape.{Shape, units, nothing, is_units, shape, shapes, under-shape, Fits}
+use Rattle.cparse.proofs.Shape.{end, and, Made, made, unused, is_used, all_used}
 use Rattle.cparse.proofs.Made.{Begins, Ends, OwnTokens, makes}
 
 -- the first token of a right side that begins with one
@@ -80,13 +82,15 @@ used-parts _ h = refl
 pub data Fitting : List Shape → Option (List Value) → Type 0 where
   fitting : {ss : List Shape} {vs : List Value} → Fits ss vs → Fitting ss (Some vs)
 
-join : {s : Shape} {o : Option Value} {ss : List Shape} {os : Option (List Value)} → Made s o → is_used s ≡ true → Fitting ss os → Fitting (s ∷ ss) (in_front o os)
+join : {s : Shape} {o : Option Value} {ss : List Shape} {os : Option (List Value)} → Made s o → is_used s ≡ true → Fitting ss os
+    → Fitting (s ∷ ss) (in_front o os)
 unfolding is_used
 join (made is) u (fitting all) = fitting (and is all)
 join unused u _ = absurd (cc)
 
 -- a production makes a value of all its parts' values
-from-parts : (p : Production) (number : ℕ) (tokens : List Token) (vs : Option (List Value)) → Fitting (shapes (template p)) vs → OwnTokens p tokens
+from-parts : (p : Production) (number : ℕ) (tokens : List Token) (vs : Option (List Value)) → Fitting (shapes (template p)) vs
+    → OwnTokens p tokens
     → Made (shape (home p)) (made_of p (place_of number tokens) vs)
 from-parts p number tokens vs (fitting all) own = makes p (mark_at (place_of number tokens)) tokens all own
 
@@ -105,9 +109,11 @@ mutual
   pub has-value : (number : ℕ) (w : Written) → IsProper w → HasValue number w
   has-value number (leaf _) proper = tt
   has-value number (node p parts) proper = by-use (shape (home p)) _ (λ used.
-      from-parts p (number + nodes_of parts) (spells parts) _ (have-values number (template p) parts proper (used-parts p used)) (own-tokens p parts proper))
+      from-parts p (number + nodes_of parts) (spells parts) _ (have-values number (template p) parts proper (used-parts p used))
+      (own-tokens p parts proper))
 
-  pub have-values : (number : ℕ) (pieces : List Piece) (parts : Forest) → Match pieces parts → all_used (shapes pieces) ≡ true → Fitting (shapes pieces) (values number parts)
+  pub have-values : (number : ℕ) (pieces : List Piece) (parts : Forest) → Match pieces parts → all_used (shapes pieces) ≡ true
+      → Fitting (shapes pieces) (values number parts)
   have-values number [] none m u = fitting end
   have-values number [] (more _ _) m u = absurd m
   have-values number (piece ∷ pieces) none m u = absurd m
@@ -115,7 +121,8 @@ mutual
   have-values number (token _ ∷ pieces) (more (node _ _) parts) m u = absurd m.0
   have-values number (part _ ∷ pieces) (more (leaf _) parts) m u = absurd m.0
   have-values number (part c ∷ pieces) (more (node q own) parts) m u =
-      join (subst (λ s. Made s (value_of number (node q own))) (under-shape (home q) c m.0) (has-value number (node q own) m.1)) (first_so (is_used (shape c)) (all_used (shapes pieces)) u)
+      join (subst (λ s. Made s (value_of number (node q own))) (under-shape (home q) c m.0) (has-value number (node q own) m.1))
+      (first_so (is_used (shape c)) (all_used (shapes pieces)) u)
       (have-values (number + nodes (node q own)) pieces parts m.3 (second_so (is_used (shape c)) (all_used (shapes pieces)) u))
 
 -- the units of a value that has some

@@ -1,5 +1,6 @@
 -- Going over the productions of a proper tree from the last to the first finds its first node at level 257.
-use Rattle.std.specs.Prelude.{◌≡◌, ℕ, ◌+◌, ◌<◌, Bool, true, false, nat_eq, cond, List, [], ◌∷◌, ◌++◌, length, replicate, slice_get, Option, Some, None, refl}
+use Rattle.std.specs.Prelude.{◌≡◌, ℕ, ◌+◌, ◌<◌, Bool, true, false, nat_eq, cond, List, [], ◌∷◌, ◌++◌}
+use Rattle.std.specs.Prelude.{length, replicate, slice_get, Option, Some, None, refl}
 use Rattle.std.proofs.Common.{arith, sym, ap, ◌∙◌, append_assoc}
 use Rattle.std.proofs.lemmas.List.{replicate_more, nil_from_length}
 use Rattle.cgrammar.specs.Grammar.{Piece, token, part, template, is_node, parts_among}
@@ -109,14 +110,16 @@ mutual
 
   -- over parts that all stand below as many
   walked-forest : (parts : Forest) (pieces : List Piece) (level at : ℕ) (levels : List ℕ) (found : Option ℕ) → Match pieces parts
-      → walked (entries_of at parts) (pass (replicate (parts_among pieces) level ++ levels) found) ≡ pass levels (first_or (deep_of level at parts) found)
+      → walked (entries_of at parts) (pass (replicate (parts_among pieces) level ++ levels) found)
+      ≡ pass levels (first_or (deep_of level at parts) found)
   walked-forest none [] level at levels found match = refl
   walked-forest none (piece ∷ pieces) level at levels found match = absurd match
   walked-forest (more written parts) [] level at levels found match = absurd match
   walked-forest (more written parts) (piece ∷ pieces) level at levels found match =
       let behind = at + length (spell written) in
       walked-append (entries at written) (entries_of behind parts) (pass (replicate (parts_among (piece ∷ pieces)) level ++ levels) found)
-      ∙ ap (λ xs. walked (entries at written) (walked (entries_of behind parts) (pass xs found))) (one-part piece pieces written level levels match.0)
+      ∙ ap (λ xs. walked (entries at written) (walked (entries_of behind parts) (pass xs found)))
+      (one-part piece pieces written level levels match.0)
       ∙ ap (walked (entries at written)) (walked-forest parts pieces level behind (above written level levels) found match.3)
       ∙ walked-written written level at levels (first_or (deep_of level behind parts) found) match.1
       ∙ ap (pass levels) (sym (first_or-append (deep level at written) (deep_of level behind parts) found))

@@ -36,10 +36,12 @@ each-of last at (more (node production own) parts) h =
     (each-of last (at + length (spells own)) parts (omega arith))
 
 -- each production of a written source
-pub lies-at : (written : Written) (i : ℕ) (d : Entry) → i < length (entries 0 written) → Lies (length (spell written)) (get_or (entries 0 written) i d)
+pub lies-at : (written : Written) (i : ℕ) (d : Entry) → i < length (entries 0 written)
+    → Lies (length (spell written)) (get_or (entries 0 written) i d)
 unfolding entries entries_of Each
 lies-at (leaf t) i d h = absurd (omega arith)
 lies-at (node production own) i d h =
     each-at (length (spells own)) (entries 0 (node production own)) i d
-    (each-append (length (spells own)) (entries_of 0 own) (record { production = production; first = 0; end = 0 + length (spells own) } ∷ [])
+    (each-append (length (spells own)) (entries_of 0 own) (record
+    { production = production; first = 0; end = 0 + length (spells own) } ∷ [])
     (each-of (length (spells own)) 0 own (omega arith)) (record { order = omega arith; within = omega arith }, tt)) h

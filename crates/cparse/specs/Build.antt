@@ -20,12 +20,14 @@ place_in tokens nodes entry = record { number = nodes; tokens = slice_range toke
 
 abbrev pub with_value : Option Value → Built → Entry → Option Built
 with_value None b entry = None
-with_value (Some value) b entry = Some (built (value ∷ drop (parts_among (template entry.production)) b.values) (b.nodes + (if is_node entry.production then 1 else 0)))
+with_value (Some value) b entry = Some (built (value ∷ drop (parts_among (template entry.production)) b.values)
+    (b.nodes + (if is_node entry.production then 1 else 0)))
 
 -- one production
 abbrev pub build_one : List Token → Built → Entry → Option Built
 build_one tokens b entry =
-    with_value (make entry.production (place_in tokens b.nodes entry) (reverse (take (parts_among (template entry.production)) b.values))) b entry
+    with_value (make entry.production (place_in tokens b.nodes entry)
+    (reverse (take (parts_among (template entry.production)) b.values))) b entry
 
 abbrev pub first_of : List Value → Option Value
 first_of [] = None

@@ -78,7 +78,8 @@ pub fn build(
     requires source { (written : Written) × IsText written tokens.now × (entries.now ≡ entries_at 0 written) }
     requires short { length tokens.now < 2 ^ 31 }
     requires few { length entries.now < 2 ^ 31 }
-    ensures { IfOk result (λ made. (written : Written) (value : Value) → IsText written tokens.now → entries.now ≡ entries_at 0 written → value_of 0 written ≡ Some value
+    ensures { IfOk result (λ made. (written : Written) (value : Value) → IsText written tokens.now
+        → entries.now ≡ entries_at 0 written → value_of 0 written ≡ Some value
         → (option_map bare_value made.0 ≡ Some value) × (made.1 ≡ nodes written)) }
 {
     let mut builder = Builder {

@@ -1,7 +1,10 @@
 -- Values without their pointers.
 use Rattle.std.specs.Prelude.{List, map}
 use Rattle.std.specs.Option.{option_map}
-use Rattle.csyn.specs.Bare.{option_bare, bare_pointers, bare_type_name, bare_expr, bare_exprs, bare_declarator, bare_declarators, bare_member, bare_members, bare_init, bare_inits, bare_init_declarator, bare_init_declarators, bare_local, bare_parameter, bare_parameter_list, bare_parameters, bare_for_first, bare_stmt, bare_items, bare_label, bare_switch_items, bare_unit, bare_units}
+use Rattle.csyn.specs.Bare.{option_bare, bare_pointers, bare_type_name, bare_expr, bare_exprs, bare_declarator, bare_declarators}
+use Rattle.csyn.specs.Bare.{bare_member, bare_members, bare_init, bare_inits, bare_init_declarator, bare_init_declarators}
+use Rattle.csyn.specs.Bare.{bare_local, bare_parameter, bare_parameter_list, bare_parameters, bare_for_first, bare_stmt, bare_items}
+use Rattle.csyn.specs.Bare.{bare_label, bare_switch_items, bare_unit, bare_units}
 use Rattle.cparts.specs.declared.value.ExternalRest.{ExternalRest}
 use Rattle.cparts.specs.declared.value.ExternalRest.TheVariants as rest
 use Rattle.cparts.specs.declared.value.Value.{Value}

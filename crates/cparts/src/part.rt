@@ -1,7 +1,10 @@
 //! The kinds of values.
 ghost use Rattle.std.specs.Prelude.{◌≡◌, Option, None, Some, Err, MatchResult};
 ghost use Rattle.std.specs.Option.{option_map};
-ghost use Rattle.csyn.specs.Bare.{box_bare, option_bare, bare_declarator, bare_declarators, bare_expr, bare_exprs, bare_for_first, bare_init, bare_init_declarator, bare_init_declarators, bare_inits, bare_items, bare_label, bare_local, bare_member, bare_members, bare_parameter, bare_parameter_list, bare_parameters, bare_pointers, bare_stmt, bare_switch_items, bare_type_name, bare_unit, bare_units};
+ghost use Rattle.csyn.specs.Bare.{box_bare, option_bare, bare_declarator, bare_declarators, bare_expr, bare_exprs, bare_for_first};
+ghost use Rattle.csyn.specs.Bare.{bare_init, bare_init_declarator, bare_init_declarators, bare_inits, bare_items, bare_label};
+ghost use Rattle.csyn.specs.Bare.{bare_local, bare_member, bare_members, bare_parameter, bare_parameter_list, bare_parameters};
+ghost use Rattle.csyn.specs.Bare.{bare_pointers, bare_stmt, bare_switch_items, bare_type_name, bare_unit, bare_units};
 ghost use Rattle.cparts.specs.Value.{bare_rest, bare_value};
 ghost use Rattle.cparts.specs.Parts as specs;
 ghost use Rattle.cparts.specs.declared.fault.MakeFault.TheVariants as fault;

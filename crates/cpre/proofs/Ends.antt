@@ -1,5 +1,6 @@
 -- An expansion ends with the end token of its source, and has no other.
-use Rattle.std.proofs.Common.{◌≡◌, ℕ, zero, suc, ◌+◌, Bool, true, false, cond, not, ◌&&◌, List, [], ◌∷◌, ◌++◌, length, map, take, Option, Some, None, Result, Ok, Err, IfSome, IfOk, refl, sym, ap, ◌∙◌, subst, arith}
+use Rattle.std.proofs.Common.{◌≡◌, ℕ, zero, suc, ◌+◌, Bool, true, false, cond, not, ◌&&◌, List, [], ◌∷◌, ◌++◌, length, map, take}
+use Rattle.std.proofs.Common.{Option, Some, None, Result, Ok, Err, IfSome, IfOk, refl, sym, ap, ◌∙◌, subst, arith}
 use Rattle.std.specs.Prelude.{if◌then◌else◌, nat_lt}
 use Rattle.std.specs.List.{prefix_len, take_while}
 use Rattle.csyn.specs.declared.cause.Cause.{Cause}
@@ -9,8 +10,11 @@ use Rattle.csyn.specs.declared.tree.TheConstants.{MAX_TOKENS}
 use Rattle.cpre.specs.declared.directive.Directive.{Directive}
 use Rattle.cpre.specs.declared.directive.Directive.TheVariants.{Ifdef, Ifndef, Else, Endif, Define, Include}
 use Rattle.cpre.specs.declared.state.Group.{Group}
-use Rattle.cpre.specs.Directive.{directive_of, name_of, name_alone, definition, defined_as, without_parameters, opens_parameters, is_stdint, are_same}
-use Rattle.cpre.specs.Expansion.{State, start, Fault, is_kept, is_empty, is_malformed, added, define, include, opened, opened_by, begin_group, stray, turn_group, end_group, closers, behind_word, directed, with_made, within, written, broken_at, and_then, after_all, made_of, expansion}
+use Rattle.cpre.specs.Directive.{directive_of, name_of, name_alone, definition, defined_as}
+use Rattle.cpre.specs.Directive.{without_parameters, opens_parameters, is_stdint, are_same}
+use Rattle.cpre.specs.Expansion.{State, start, Fault, is_kept, is_empty, is_malformed, added, define, include, opened, opened_by}
+use Rattle.cpre.specs.Expansion.{begin_group, stray, turn_group, end_group, closers, behind_word, directed, with_made, within}
+use Rattle.cpre.specs.Expansion.{written, broken_at, and_then, after_all, made_of, expansion}
 use Rattle.cpre.specs.Line.{Item, Line, Plain, End, items, begins, goes_on, is_end, NoEnd, EndsOnce}
 use Rattle.cpre.specs.Replacement.{definition_of, expanded}
 use Rattle.cpre.specs.Standard.{typed}

@@ -1,5 +1,6 @@
 -- The stages of macros while names are replaced.
-use Rattle.std.proofs.Common.{◌≡◌, ℕ, Bool, true, false, cond, ◌||◌, ◌&&◌, List, [], ◌∷◌, map, flat_map, ◌++◌, Option, Some, None, refl, sym, ap, ◌∙◌, subst, true≢false, option_and_then}
+use Rattle.std.proofs.Common.{◌≡◌, ℕ, Bool, true, false, cond, ◌||◌, ◌&&◌, List, [], ◌∷◌, map, flat_map, ◌++◌, Option}
+use Rattle.std.proofs.Common.{Some, None, refl, sym, ap, ◌∙◌, subst, true≢false, option_and_then}
 use Rattle.std.specs.Prelude.{if◌then◌else◌}
 use Rattle.std.specs.List.{list_all}
 use Rattle.std.specs.Option.{option_map}
@@ -16,7 +17,8 @@ use Rattle.cpre.specs.Directive.{name_of}
 use Rattle.cpre.specs.Held.{macros_of, found, stage_of, Sets}
 use Rattle.cpre.specs.Replacement.{definition_of, macro_of, without, at, expanded}
 use Rattle.cpre.specs.Replacing.{names, is_among, hide, AreOpen, Avoids, AreNothing, IsSound, Keeps, is_marked, is_nothing, stage_behind}
-use Rattle.cpre.proofs.Names.{same_name, own_name, swapped, none, definition_of-hide, names_macro, names_none, definition_found, extends_hide, extends_push}
+use Rattle.cpre.proofs.Names.{same_name, own_name, swapped, none, definition_of-hide, names_macro}
+use Rattle.cpre.proofs.Names.{names_none, definition_found, extends_hide, extends_push}
 use Rattle.cpre.proofs.Depth.{expanded_name, expanded_other, nothing_extended}
 
 -- ---- tests

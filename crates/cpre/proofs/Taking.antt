@@ -1,5 +1,7 @@
 -- What a token brings while names are replaced.
-use Rattle.std.proofs.Common.{◌≡◌, ℕ, suc, ◌||◌, Bor, ◌+◌, ◌<◌, ◌≤◌, List, [], ◌∷◌, ◌++◌, length, map, flat_map, Option, Some, None, Result, Ok, Err, OnOk, IfErr, refl, sym, ap, ◌∙◌, subst, arith, append_assoc, append-nil, length-append}
+use Rattle.std.proofs.Common.{◌≡◌, ℕ, suc, ◌||◌, Bor, ◌+◌, ◌<◌, ◌≤◌, List, [], ◌∷◌, ◌++◌, length, map, flat_map, Option, Some, None}
+use Rattle.std.proofs.Common.{Result, Ok, Err, OnOk, IfErr, refl, sym, ap, ◌∙◌, subst, arith, append_assoc, append-nil}
+use Rattle.std.proofs.Common.{length-append}
 use Rattle.std.proofs.lemmas.List.{map-append}
 use Rattle.std.specs.Str.{bytes_eq}
 use Rattle.csyn.specs.declared.token.Token.{Token}
@@ -15,7 +17,8 @@ use Rattle.cpre.specs.Directive.{name_of}
 use Rattle.cpre.specs.Fate.{Becomes}
 use Rattle.cpre.specs.Held.{macros_of, found}
 use Rattle.cpre.specs.Replacement.{Macros, without, at, expanded}
-use Rattle.cpre.specs.Replacing.{names, is_among, hide, become, coming, token_steps, all_steps, work, IsSound, Keeps, Takes, Steps, Overflows}
+use Rattle.cpre.specs.Replacing.{names, is_among, hide, become, coming, token_steps, all_steps}
+use Rattle.cpre.specs.Replacing.{work, IsSound, Keeps, Takes, Steps, Overflows}
 use Rattle.cpre.specs.Standard.{typed}
 use Rattle.cpre.proofs.Depth.{expanded_name, steps_name, some_steps}
 use Rattle.cpre.proofs.Stages.{opens_macro}

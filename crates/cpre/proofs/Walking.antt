@@ -1,5 +1,7 @@
 -- Going through a source item by item.
-use Rattle.std.proofs.Common.{◌≡◌, ℕ, zero, suc, ◌+◌, ◌-◌, ◌<◌, ◌≤◌, Bool, true, false, cond, not, ◌&&◌, List, [], ◌∷◌, ◌++◌, length, take, drop, get_or, Option, Some, None, Result, Ok, Err, refl, sym, ap, ◌∙◌, subst, true≢false, arith, false-eqb}
+use Rattle.std.proofs.Common.{◌≡◌, ℕ, zero, suc, ◌+◌, ◌-◌, ◌<◌, ◌≤◌, Bool, true, false, cond, not, ◌&&◌, List, [], ◌∷◌, ◌++◌}
+use Rattle.std.proofs.Common.{length, take, drop, get_or, Option, Some, None, Result, Ok, Err, refl, sym, ap, ◌∙◌, subst}
+use Rattle.std.proofs.Common.{true≢false, arith, false-eqb}
 use Rattle.std.specs.Prelude.{if◌then◌else◌, nat_lt, ◌==◌}
 use Rattle.std.specs.List.{prefix_len, take_while}
 use Rattle.std.proofs.lemmas.List.{take_all, nil_from_length}
@@ -17,7 +19,8 @@ use Rattle.cpre.specs.declared.fault.ItemFault.TheVariants.{Broken, Memory}
 use Rattle.cpre.specs.declared.source.Closing.{Closing}
 use Rattle.cpre.specs.Closing.{is_opening, unclosed, Counts, with_opening, with_directive}
 use Rattle.cpre.specs.Directive.{directive_of, name_alone}
-use Rattle.cpre.specs.Expansion.{State, start, Fault, is_kept, opened_by, begin_group, closing, closers, behind_word, directed, with_made, written, broken_at, after_item, and_then, after_all, made_of, expansion}
+use Rattle.cpre.specs.Expansion.{State, start, Fault, is_kept, opened_by, begin_group, closing, closers, behind_word, directed}
+use Rattle.cpre.specs.Expansion.{with_made, written, broken_at, after_item, and_then, after_all, made_of, expansion}
 use Rattle.cpre.specs.Given.{Fails, Refuses, fault_at}
 use Rattle.cpre.specs.Line.{Item, Line, Plain, End, items, begins, goes_on, is_end, is_hash}
 use Rattle.cpre.specs.Standard.{typed, typed_kind}
@@ -25,7 +28,8 @@ use Rattle.std.proofs.lemmas.Bool.{eqb-true}
 use Rattle.std.proofs.lemmas.Bool.Decides.{Decides-eqb, Decides-ltb}
 use Rattle.cpre.proofs.Reading.{ok}
 use Rattle.cpre.proofs.Stages.{false-unless}
-use Rattle.cpre.proofs.Closing.{rest_of_line, items_skip, closers_within, unclosed_skip, unclosed_within, items_of_line, closers_of_line, unclosed_of_line, items_of_end, items_of_plain, unclosed_of_other}
+use Rattle.cpre.proofs.Closing.{rest_of_line, items_skip, closers_within, unclosed_skip, unclosed_within, items_of_line}
+use Rattle.cpre.proofs.Closing.{closers_of_line, unclosed_of_line, items_of_end, items_of_plain, unclosed_of_other}
 
 -- ---- counting from the right
 

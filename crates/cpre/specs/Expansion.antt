@@ -1,5 +1,6 @@
 -- The expansion of a source, or its first fault.
-use Rattle.std.specs.Prelude.{◌≡◌, ℕ, ◌+◌, ◌-◌, Bool, true, false, not, ◌&&◌, if◌then◌else◌, nat_lt, List, [], ◌∷◌, ◌++◌, length, map, is_some, Option, Some, None, Result, Ok, Err}
+use Rattle.std.specs.Prelude.{◌≡◌, ℕ, ◌+◌, ◌-◌, Bool, true, false, not, ◌&&◌, if◌then◌else◌, nat_lt, List, [], ◌∷◌}
+use Rattle.std.specs.Prelude.{◌++◌, length, map, is_some, Option, Some, None, Result, Ok, Err}
 use Rattle.csyn.specs.declared.cause.Cause.{Cause}
 use Rattle.csyn.specs.declared.cause.Cause.TheVariants.{P1, P2, P3, P4, P5, P6, P7}
 use Rattle.csyn.specs.declared.fault.SourceFault.{SourceFault}

@@ -108,7 +108,8 @@ impl<'a> Replacer<'a> {
         ensures takes { OnOk result (replacing.Takes place token.entry.now self.old self.new) }
         ensures few { OnOk result (length self.old.made.items ≤ MAX_TOKENS → length self.new.made.items ≤ MAX_TOKENS) }
         ensures err { IfErr result (replacing.Overflows (length self.old.made.items
-            + length (replacing.become (replacing.hide (replacing.names self.old.frames) (held.macros_of self.old.macros)) place token.entry.now))) }
+            + length (replacing.become (replacing.hide (replacing.names self.old.frames) (held.macros_of self.old.macros)) place
+            token.entry.now))) }
     {
         match self.fate(token) {
             Fate::Stays => self.write(alloc, place, token),

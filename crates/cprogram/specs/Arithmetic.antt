@@ -3,7 +3,8 @@
 -- those of the numbers below (prunum), this project's own choice.
 use Rattle.std.specs.Prelude.{ℕ, ◌+◌, ◌-◌, ◌*◌, ◌^◌, ◌==◌, Bool, not, ℤ, pos, int_lt, int_le, bit_and, bit_or, bit_xor}
 use Rattle.csyn.specs.declared.operator.BinaryOperator.{BinaryOperator}
-use Rattle.csyn.specs.declared.operator.BinaryOperator.TheVariants.{Multiply, Divide, Remainder, Add, Subtract, ShiftLeft, ShiftRight, BitAnd, BitXor, BitOr}
+use Rattle.csyn.specs.declared.operator.BinaryOperator.TheVariants.{Multiply, Divide, Remainder, Add, Subtract, ShiftLeft}
+use Rattle.csyn.specs.declared.operator.BinaryOperator.TheVariants.{ShiftRight, BitAnd, BitXor, BitOr}
 use Rattle.csyn.specs.declared.operator.ComparisonOperator.{ComparisonOperator}
 use Rattle.csyn.specs.declared.operator.ComparisonOperator.TheVariants.{Less, Greater, LessEqual, GreaterEqual, Equal, NotEqual}
 use Rattle.csyn.specs.declared.specifiers.Sign.{Sign}

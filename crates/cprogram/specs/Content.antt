@@ -17,7 +17,8 @@ use Rattle.cprogram.specs.declared.statement.Initialiser.{Initialiser}
 use Rattle.cprogram.specs.declared.statement.Initialiser.TheVariants as initialiser
 use Rattle.cprogram.specs.declared.statement.Items as items
 use Rattle.cprogram.specs.declared.statement.LeafValues as leaves
-use Rattle.cprogram.specs.declared.statement.StmtKind.{StmtKind, Block, Expression, If', IfElse', While', Do', For', Switch, Break, Continue, Return, Region}
+use Rattle.cprogram.specs.declared.statement.StmtKind.{StmtKind, Block, Expression, If', IfElse', While', Do', For'}
+use Rattle.cprogram.specs.declared.statement.StmtKind.{Switch, Break, Continue, Return, Region}
 use Rattle.cprogram.specs.declared.statement.SwitchItems as switch
 use Rattle.cprogram.specs.declared.statement.Turns.{Turns}
 use Rattle.cprogram.specs.declared.value.Operand.{Operand}

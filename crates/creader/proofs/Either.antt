@@ -18,7 +18,8 @@ ended : (tokens rest : List Token) (symbols : List Symbol) (values : List Writte
     → symbols ≡ [] → rest ≡ [] → (written : Written) × IsText written tokens
 ended tokens rest symbols values reached no-symbols no-tokens =
     let whole-way : Reaches (start tokens) (at [] values []) =
-    subst (λ xs. Reaches (start tokens) (at xs values [])) no-symbols (subst (λ ts. Reaches (start tokens) (at symbols values ts)) no-tokens reached) in
+    subst (λ xs. Reaches (start tokens) (at xs values [])) no-symbols
+    (subst (λ ts. Reaches (start tokens) (at symbols values ts)) no-tokens reached) in
     let made = sound tokens values whole-way in
     (made.0, made.2)
 

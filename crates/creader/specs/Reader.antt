@@ -1,5 +1,6 @@
 -- What the reader holds, and what a step makes of it.
-use Rattle.std.specs.Prelude.{◌≡◌, Bool, true, false, ℕ, ◌+◌, ◌-◌, List, [], ◌∷◌, ◌++◌, length, take, slice_index_or, Option, Some, None, if◌then◌else◌}
+use Rattle.std.specs.Prelude.{◌≡◌, Bool, true, false, ℕ, ◌+◌, ◌-◌, List, [], ◌∷◌, ◌++◌, length, take}
+use Rattle.std.specs.Prelude.{slice_index_or, Option, Some, None, if◌then◌else◌}
 use Rattle.cgrammar.specs.declared.kind.Kind.{Kind}
 use Rattle.cgrammar.specs.declared.production.Production.{Production}
 use Rattle.creader.specs.declared.part.Move.{Move}
@@ -38,7 +39,11 @@ abbrev pub reduced : Production → Held → Held
 reduced production h =
     let below = length h.firsts - length (template production) in
     let first = slice_index_or h.firsts below h.place in
-    record h { firsts = take below h.firsts ++ first ∷ []; entries = h.entries ++ record { production = production; first = first; end = h.place } ∷ [] }
+    record h {
+      firsts = take below h.firsts ++ first ∷ [];
+      entries =
+          h.entries ++ record { production = production; first = first; end = h.place } ∷ [];
+    }
 
 -- symbols are put in front
 abbrev pub pushed : List Symbol → Held → Held
@@ -59,7 +64,8 @@ abbrev pub step_by : List Symbol → Kind → Held → Progress × Held
 step_by [] kind h = (progress.Stuck, h)
 step_by (symbol.Reduce production ∷ symbols) kind h = (progress.Moved, reduced production (record h { symbols = symbols }))
 step_by (symbol.Take terminal ∷ symbols) kind h =
-    if accepts terminal kind then (progress.Taken, taken (record h { symbols = symbols })) else (progress.Stuck, record h { symbols = symbols })
+    if accepts terminal kind then (progress.Taken, taken (record h { symbols = symbols })) else
+    (progress.Stuck, record h { symbols = symbols })
 step_by (symbol.Read part ∷ symbols) kind h = followed (choose (rules part) kind) (record h { symbols = symbols })
 
 -- one step before a token of this kind

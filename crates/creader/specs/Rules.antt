@@ -12,12 +12,28 @@ use Rattle.cgrammar.specs.declared.production.Level.TheVariants as level
 use Rattle.cgrammar.specs.declared.production.Words.{Words}
 use Rattle.cgrammar.specs.declared.production.Words.TheVariants as words
 use Rattle.cgrammar.specs.Terminal.{accepts}
-use Rattle.creader.specs.declared.table.expression.TheConstants.{EXPRESSION, COMMA_TAIL, ASSIGNMENT, ASSIGNMENT_TAIL, ASSIGNMENT_PARENTHESIS, CONDITIONAL, CONDITIONAL_TAIL, OPERAND, OPERAND_PARENTHESIS, UNARY, SIZEOF_OPERAND, SIZEOF_PARENTHESIS, AFTER_NAME, NAME_TAIL, POSTFIX_TAIL, ARGUMENTS, MORE_ARGUMENTS, OPTIONAL_EXPRESSION}
-use Rattle.creader.specs.declared.table.chain.TheConstants.{CHAIN_OR, CHAIN_TAIL_OR, CHAIN_AND, CHAIN_TAIL_AND, CHAIN_BIT_OR, CHAIN_TAIL_BIT_OR, CHAIN_BIT_XOR, CHAIN_TAIL_BIT_XOR, CHAIN_BIT_AND, CHAIN_TAIL_BIT_AND, CHAIN_EQUALITY, CHAIN_TAIL_EQUALITY, CHAIN_RELATION, CHAIN_TAIL_RELATION, CHAIN_SHIFT, CHAIN_TAIL_SHIFT, CHAIN_SUM, CHAIN_TAIL_SUM, CHAIN_PRODUCT, CHAIN_TAIL_PRODUCT}
-use Rattle.creader.specs.declared.table.types.TheConstants.{TYPE_NAME, TYPE, BASE, WORDS_SIGN, WORDS_CHAR, WORDS_LENGTH, WORDS_INT, WORDS_SIGN_CHAR, WORDS_SIGN_LENGTH, WORDS_SIGN_INT, WORDS_LENGTH_INT, WORDS_SIGN_LENGTH_INT, QUALIFIERS, POINTERS, STARS_TAIL, AFTER_STAR, POINTERS_TAIL, AFTER_NEXT_STAR}
-use Rattle.creader.specs.declared.table.declaration.TheConstants.{LENGTHS, DECLARATOR, MORE_DECLARATORS, STRUCT_MEMBER, MORE_MEMBERS, LOCATION, INITIAL, INIT, MORE_INITS, AFTER_INIT_COMMA, INIT_DECLARATOR, MORE_INIT_DECLARATORS, OBJECT}
-use Rattle.creader.specs.declared.table.statement.TheConstants.{STATEMENT, OPTIONAL_ELSE, FOR_FIRST, SWITCH_ITEMS, LABEL, MORE_SWITCH_ITEMS, ITEMS}
-use Rattle.creader.specs.declared.table.unit.TheConstants.{UNITS, UNIT, AFTER_VOLATILE, REGISTER_TYPE, AFTER_TAG, EXTERNAL_REST, FUNCTION_END, PARAMETERS, AFTER_VOID, PARAMETER, PARAMETER_TAIL, PARAMETER_AFTER_STAR, PARAMETER_END, PARAMETER_LENGTH, MORE_PARAMETERS}
+use Rattle.creader.specs.declared.table.expression.TheConstants.{EXPRESSION, COMMA_TAIL, ASSIGNMENT, ASSIGNMENT_TAIL}
+use Rattle.creader.specs.declared.table.expression.TheConstants.{ASSIGNMENT_PARENTHESIS, CONDITIONAL, CONDITIONAL_TAIL, OPERAND}
+use Rattle.creader.specs.declared.table.expression.TheConstants.{OPERAND_PARENTHESIS, UNARY, SIZEOF_OPERAND, SIZEOF_PARENTHESIS}
+use Rattle.creader.specs.declared.table.expression.TheConstants.{AFTER_NAME, NAME_TAIL, POSTFIX_TAIL, ARGUMENTS, MORE_ARGUMENTS}
+use Rattle.creader.specs.declared.table.expression.TheConstants.{OPTIONAL_EXPRESSION}
+use Rattle.creader.specs.declared.table.chain.TheConstants.{CHAIN_OR, CHAIN_TAIL_OR, CHAIN_AND, CHAIN_TAIL_AND, CHAIN_BIT_OR}
+use Rattle.creader.specs.declared.table.chain.TheConstants.{CHAIN_TAIL_BIT_OR, CHAIN_BIT_XOR, CHAIN_TAIL_BIT_XOR, CHAIN_BIT_AND}
+use Rattle.creader.specs.declared.table.chain.TheConstants.{CHAIN_TAIL_BIT_AND, CHAIN_EQUALITY, CHAIN_TAIL_EQUALITY, CHAIN_RELATION}
+use Rattle.creader.specs.declared.table.chain.TheConstants.{CHAIN_TAIL_RELATION, CHAIN_SHIFT, CHAIN_TAIL_SHIFT, CHAIN_SUM}
+use Rattle.creader.specs.declared.table.chain.TheConstants.{CHAIN_TAIL_SUM, CHAIN_PRODUCT, CHAIN_TAIL_PRODUCT}
+use Rattle.creader.specs.declared.table.types.TheConstants.{TYPE_NAME, TYPE, BASE, WORDS_SIGN, WORDS_CHAR, WORDS_LENGTH, WORDS_INT}
+use Rattle.creader.specs.declared.table.types.TheConstants.{WORDS_SIGN_CHAR, WORDS_SIGN_LENGTH, WORDS_SIGN_INT, WORDS_LENGTH_INT}
+use Rattle.creader.specs.declared.table.types.TheConstants.{WORDS_SIGN_LENGTH_INT, QUALIFIERS, POINTERS, STARS_TAIL, AFTER_STAR}
+use Rattle.creader.specs.declared.table.types.TheConstants.{POINTERS_TAIL, AFTER_NEXT_STAR}
+use Rattle.creader.specs.declared.table.declaration.TheConstants.{LENGTHS, DECLARATOR, MORE_DECLARATORS, STRUCT_MEMBER}
+use Rattle.creader.specs.declared.table.declaration.TheConstants.{MORE_MEMBERS, LOCATION, INITIAL, INIT, MORE_INITS}
+use Rattle.creader.specs.declared.table.declaration.TheConstants.{AFTER_INIT_COMMA, INIT_DECLARATOR, MORE_INIT_DECLARATORS, OBJECT}
+use Rattle.creader.specs.declared.table.statement.TheConstants.{STATEMENT, OPTIONAL_ELSE, FOR_FIRST, SWITCH_ITEMS}
+use Rattle.creader.specs.declared.table.statement.TheConstants.{LABEL, MORE_SWITCH_ITEMS, ITEMS}
+use Rattle.creader.specs.declared.table.unit.TheConstants.{UNITS, UNIT, AFTER_VOLATILE, REGISTER_TYPE, AFTER_TAG, EXTERNAL_REST}
+use Rattle.creader.specs.declared.table.unit.TheConstants.{FUNCTION_END, PARAMETERS, AFTER_VOID, PARAMETER, PARAMETER_TAIL}
+use Rattle.creader.specs.declared.table.unit.TheConstants.{PARAMETER_AFTER_STAR, PARAMETER_END, PARAMETER_LENGTH, MORE_PARAMETERS}
 
 -- for which tokens, what becomes of the token, and what the part is replaced by
 pub record Rule : Type 0 where

@@ -7,7 +7,9 @@ use Rattle.std.specs.Global.{Box}
 use Rattle.csyn.specs.declared.specifiers.Pointers as pointers
 use Rattle.csyn.specs.declared.specifiers.TypeName.{TypeName}
 use Rattle.csyn.specs.declared.expression.Expr.{Expr}
-use Rattle.csyn.specs.declared.expression.ExprKind.{ExprKind, Name, Number, Character, Index', CallFunction, Call', Member', Arrow', Postfix', Prefix', SizeofExpression', SizeofType, Cast', Binary', Comparison', Logical', Conditional', Assign', AssignWith', Comma'}
+use Rattle.csyn.specs.declared.expression.ExprKind.{ExprKind, Name, Number, Character, Index', CallFunction, Call', Member', Arrow'}
+use Rattle.csyn.specs.declared.expression.ExprKind.{Postfix', Prefix', SizeofExpression', SizeofType, Cast', Binary', Comparison'}
+use Rattle.csyn.specs.declared.expression.ExprKind.{Logical', Conditional', Assign', AssignWith', Comma'}
 use Rattle.csyn.specs.declared.expression.Exprs as exprs
 use Rattle.csyn.specs.declared.declaration.Declarator.{Declarator}
 use Rattle.csyn.specs.declared.declaration.Declarators as declarators
@@ -26,7 +28,8 @@ use Rattle.csyn.specs.declared.declaration.Parameters.TheVariants as parameters
 use Rattle.csyn.specs.declared.statement.ForFirst.{ForFirst}
 use Rattle.csyn.specs.declared.statement.ForFirst.TheVariants as first
 use Rattle.csyn.specs.declared.statement.Stmt.{Stmt}
-use Rattle.csyn.specs.declared.statement.StmtKind.{StmtKind, Block, Expression, If', IfElse', While', Do', For', Switch, Break, Continue, Return, Region}
+use Rattle.csyn.specs.declared.statement.StmtKind.{StmtKind, Block, Expression, If', IfElse', While', Do', For'}
+use Rattle.csyn.specs.declared.statement.StmtKind.{Switch, Break, Continue, Return, Region}
 use Rattle.csyn.specs.declared.statement.Items as items
 use Rattle.csyn.specs.declared.statement.Label.{Label}
 use Rattle.csyn.specs.declared.statement.LabelKind.{LabelKind}
@@ -160,7 +163,8 @@ abbrev mutual
   bare_stmt_kind (IfElse' c _ m s _ n t) = IfElse' (box_bare bare_expr c) nowhere m (bare_stmt_kind s) nowhere n (bare_stmt_kind t)
   bare_stmt_kind (While' c _ m s) = While' (box_bare bare_expr c) nowhere m (bare_stmt_kind s)
   bare_stmt_kind (Do' _ m s c) = Do' nowhere m (bare_stmt_kind s) (box_bare bare_expr c)
-  bare_stmt_kind (For' a b c _ m s) = For' (bare_for_first a) (option_bare bare_expr b) (option_bare bare_expr c) nowhere m (bare_stmt_kind s)
+  bare_stmt_kind (For' a b c _ m s) = For' (bare_for_first a) (option_bare bare_expr b) (option_bare bare_expr c) nowhere m
+      (bare_stmt_kind s)
   bare_stmt_kind (Switch e all) = Switch (box_bare bare_expr e) (bare_switch_items all)
   bare_stmt_kind Break = Break
   bare_stmt_kind Continue = Continue
@@ -181,7 +185,13 @@ abbrev pub bare_stmt : Stmt → Stmt
 bare_stmt s = record { mark = s.mark; kind = bare_stmt_kind s.kind }
 
 abbrev pub bare_head : Head → Head
-bare_head h = record { specifiers = h.specifiers; pointers = bare_pointers h.pointers; name = h.name; parameters = bare_parameters h.parameters }
+bare_head h = record {
+  specifiers = h.specifiers;
+  pointers = bare_pointers h.pointers;
+  name = h.name;
+  parameters =
+      bare_parameters h.parameters;
+}
 
 abbrev pub bare_unit_kind : UnitKind → UnitKind
 bare_unit_kind (kind.Struct tag all) = kind.Struct tag (bare_members all)

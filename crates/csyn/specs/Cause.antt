@@ -1,7 +1,9 @@
 -- How a cause is printed.
 use Rattle.std.specs.Prelude.{ℕ, List, codes}
 use Rattle.csyn.specs.declared.cause.Cause.{Cause}
-use Rattle.csyn.specs.declared.cause.Cause.TheVariants.{L1, L2, L3, L4, P1, P2, P3, P4, P5, P6, P7, G1, G2, G3, S1, S2, S3, S4, S5, S6, S7, S8, S9, S10, S11, S12, S13, S14, S15, S16, S17, S18, S19, S20, S21, S22, S23, S24, S25}
+use Rattle.csyn.specs.declared.cause.Cause.TheVariants.{L1, L2, L3, L4, P1, P2, P3, P4, P5, P6, P7, G1, G2, G3, S1, S2, S3, S4, S5}
+use Rattle.csyn.specs.declared.cause.Cause.TheVariants.{S6, S7, S8, S9, S10, S11, S12, S13, S14, S15, S16, S17, S18, S19, S20, S21}
+use Rattle.csyn.specs.declared.cause.Cause.TheVariants.{S22, S23, S24, S25}
 
 -- its letter and number
 abbrev pub cause_name : Cause → List ℕ

@@ -2,7 +2,11 @@
 use Rattle.std.specs.Prelude.{ℕ, Bool, true, false, List, [], ◌∷◌, Option, codes}
 use Rattle.csyn.specs.Table.{spelled}
 use Rattle.csyn.specs.declared.keyword.Keyword.{Keyword}
-use Rattle.csyn.specs.declared.keyword.Keyword.TheVariants.{Attribute, Auto, Boolean, Break, Case, Char, Complex, Const, Continue, Default, Do, Double, Else, Enum, Extern, Float, For, Goto, If, Imaginary, Inline, Int, Long, Region, Register, Restrict, Return, Short, Signed, Sizeof, Static, Struct, Switch, Typedef, Union, Unsigned, Void, Volatile, While}
+use Rattle.csyn.specs.declared.keyword.Keyword.TheVariants.{Attribute, Auto, Boolean, Break, Case, Char, Complex, Const, Continue}
+use Rattle.csyn.specs.declared.keyword.Keyword.TheVariants.{Default, Do, Double, Else, Enum, Extern, Float, For, Goto, If}
+use Rattle.csyn.specs.declared.keyword.Keyword.TheVariants.{Imaginary, Inline, Int, Long, Region, Register, Restrict, Return, Short}
+use Rattle.csyn.specs.declared.keyword.Keyword.TheVariants.{Signed, Sizeof, Static, Struct, Switch, Typedef, Union, Unsigned, Void}
+use Rattle.csyn.specs.declared.keyword.Keyword.TheVariants.{Volatile, While}
 
 -- no production of the grammar names it
 abbrev pub is_excluded : Keyword → Bool

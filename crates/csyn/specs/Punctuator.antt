@@ -1,7 +1,14 @@
 -- The punctuators by their spelling.
 use Rattle.std.specs.Prelude.{ℕ, List, [], ◌∷◌, Option, codes}
 use Rattle.csyn.specs.declared.punctuator.Punctuator.{Punctuator}
-use Rattle.csyn.specs.declared.punctuator.Punctuator.TheVariants.{ShiftLeftAssign, ShiftRightAssign, Arrow, Increment, Decrement, ShiftLeft, ShiftRight, LessEqual, GreaterEqual, Equal, NotEqual, LogicalAnd, LogicalOr, MultiplyAssign, DivideAssign, RemainderAssign, AddAssign, SubtractAssign, AndAssign, XorAssign, OrAssign, LeftBracket, RightBracket, LeftParenthesis, RightParenthesis, LeftBrace, RightBrace, Dot, Ampersand, Star, Plus, Minus, Tilde, Exclamation, Slash, Percent, Less, Greater, Caret, Bar, Question, Colon, Semicolon, Assign, Comma, Hash}
+use Rattle.csyn.specs.declared.punctuator.Punctuator.TheVariants.{ShiftLeftAssign, ShiftRightAssign, Arrow, Increment, Decrement}
+use Rattle.csyn.specs.declared.punctuator.Punctuator.TheVariants.{ShiftLeft, ShiftRight, LessEqual, GreaterEqual, Equal, NotEqual}
+use Rattle.csyn.specs.declared.punctuator.Punctuator.TheVariants.{LogicalAnd, LogicalOr, MultiplyAssign, DivideAssign}
+use Rattle.csyn.specs.declared.punctuator.Punctuator.TheVariants.{RemainderAssign, AddAssign, SubtractAssign, AndAssign, XorAssign}
+use Rattle.csyn.specs.declared.punctuator.Punctuator.TheVariants.{OrAssign, LeftBracket, RightBracket, LeftParenthesis}
+use Rattle.csyn.specs.declared.punctuator.Punctuator.TheVariants.{RightParenthesis, LeftBrace, RightBrace, Dot, Ampersand, Star}
+use Rattle.csyn.specs.declared.punctuator.Punctuator.TheVariants.{Plus, Minus, Tilde, Exclamation, Slash, Percent, Less, Greater}
+use Rattle.csyn.specs.declared.punctuator.Punctuator.TheVariants.{Caret, Bar, Question, Colon, Semicolon, Assign, Comma, Hash}
 use Rattle.csyn.specs.Table.{spelled}
 
 -- each with its spelling (C99 6.4.6), the longer before the shorter

@@ -4,7 +4,8 @@ use Rattle.csyn.specs.declared.specifiers.Sign.TheVariants.{Signed, Unsigned}
 use Rattle.prunum.specs.declared.width.Width.TheVariants.{B1, B2, B4}
 use Rattle.cprogram.specs.declared.scalar.Integer.{Integer}
 use Rattle.ctypes.specs.declared.base.BaseKind.{BaseKind}
-use Rattle.ctypes.specs.declared.base.BaseKind.TheVariants.{Void, Char, SignedChar, UnsignedChar, Short, UnsignedShort, Int, UnsignedInt, Struct}
+use Rattle.ctypes.specs.declared.base.BaseKind.TheVariants.{Void, Char, SignedChar, UnsignedChar, Short}
+use Rattle.ctypes.specs.declared.base.BaseKind.TheVariants.{UnsignedShort, Int, UnsignedInt, Struct}
 
 abbrev pub kind_integer : BaseKind → Option Integer
 kind_integer Void = None

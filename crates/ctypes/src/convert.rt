@@ -1,7 +1,8 @@
 //! What converts to what (C99 6.3).
 
 ghost use Rattle.std.specs.Prelude.{◌≡◌};
-ghost use Rattle.ctypes.specs.Convert.{promoted, common, bool_same, kind_same, const_fits, qualifiers_fit, step_fits, base_fits, steps_same, type_fits, targets_fit, null_of, implied_between, cast_between, implied, cast};
+ghost use Rattle.ctypes.specs.Convert.{promoted, common, bool_same, kind_same, const_fits, qualifiers_fit, step_fits, base_fits};
+ghost use Rattle.ctypes.specs.Convert.{steps_same, type_fits, targets_fit, null_of, implied_between, cast_between, implied, cast};
 
 use crate::base::{Base, BaseKind};
 use crate::ctype::CType;

@@ -1,7 +1,10 @@
 -- The host bits, bit by bit.
-use Rattle.std.proofs.Common.{◌≡◌, ◌≢◌, ℕ, zero, suc, ◌+◌, ◌*◌, ◌^◌, ◌/◌, ◌%◌, ◌<◌, ◌≤◌, Bool, true, false, ◌&&◌, ◌||◌, eqb, ltb, min, max, refl, sym, ap, ◌∙◌, arith, rules, List, get_or, length, subst, inl, inr, bit_and, bit_or, ◌↔◌, IsTrue}
+use Rattle.std.proofs.Common.{◌≡◌, ◌≢◌, ℕ, zero, suc, ◌+◌, ◌*◌, ◌^◌, ◌/◌, ◌%◌, ◌<◌, ◌≤◌, Bool, true, false, ◌&&◌, ◌||◌, eqb, ltb}
+use Rattle.std.proofs.Common.{min, max, refl, sym, ap, ◌∙◌, arith, rules, List, get_or, length, subst, inl, inr, bit_and, bit_or}
+use Rattle.std.proofs.Common.{◌↔◌, IsTrue}
 use Rattle.std.specs.Int.{bit_at}
-use Rattle.std.proofs.lemmas.Nat.Bits.{bit_at_lowest, bit_at-suc, bit_at-zero, bit_at_or, bit_at_and, bit_at-lt, shr_and_one, bit_at-pow_same, bit_at-pow_other, same_from_bits}
+use Rattle.std.proofs.lemmas.Nat.Bits.{bit_at_lowest, bit_at-suc, bit_at-zero, bit_at_or, bit_at_and, bit_at-lt}
+use Rattle.std.proofs.lemmas.Nat.Bits.{shr_and_one, bit_at-pow_same, bit_at-pow_other, same_from_bits}
 use Rattle.std.specs.Bool.{Decides}
 use Rattle.std.proofs.lemmas.Bool.Decides.{Decides-below_or, Decides-and, Decides-eqb, Decides-ltb, Decides-like, eqb_tells, nat_tests}
 use Rattle.std.proofs.lemmas.List.{get_or_past}
@@ -17,7 +20,8 @@ pub any_below-zero : (p : ℕ → Bool) → any_below p 0 ≡ false
 unfolding any_below
 any_below-zero p = refl
 
-pub Decides-any_below : (p : ℕ → Bool) (P : ℕ → Type 0) → ((k : ℕ) → Decides (p k) (P k)) → (n : ℕ) → Decides (any_below p n) ((k : ℕ) × (k < n) × P k)
+pub Decides-any_below : (p : ℕ → Bool) (P : ℕ → Type 0) → ((k : ℕ) → Decides (p k) (P k)) → (n : ℕ)
+    → Decides (any_below p n) ((k : ℕ) × (k < n) × P k)
 unfolding any_below
 Decides-any_below p P each n = Decides-below_or p P (any_below p) each refl (λ _. refl) n
 
@@ -72,7 +76,8 @@ and_false false b = refl
 
 one_bit_other : (x h : ℕ) (a b : Bool) → h ≢ x → bit_at (2 ^ x) h ≡ bit_of (a && (b && eqb x h))
 one_bit_other x h a b other =
-    bit_at-pow_other x h other ∙ ap bit_of (sym (ap (λ t. a && (b && t)) (let e : eqb x h ≡ false = grind (arith, nat_tests) in e) ∙ and_false a b))
+    bit_at-pow_other x h other ∙ ap bit_of (sym (ap (λ t. a && (b && t)) (let e : eqb x h ≡ false = grind (arith, nat_tests) in e)
+    ∙ and_false a b))
 
 one_bit_same : (x : ℕ) (a b : Bool) → a ≡ true → b ≡ true → bit_at (2 ^ x) x ≡ bit_of (a && (b && eqb x x))
 one_bit_same x true true p q = bit_at-pow_same x ∙ ap bit_of (sym (let e : eqb x x ≡ true = grind (arith, nat_tests) in e))
@@ -82,7 +87,11 @@ one_bit_same x false b p q = absurd (cc)
 -- the number with the bit of one place alone
 pub one_bit : (on : ℕ → Bool) (x h : ℕ) (b : Bool) → on x ≡ true → b ≡ true → bit_at (2 ^ x) h ≡ bit_of (on h && (b && eqb x h))
 one_bit on x h b p q =
-    elim (eqb_tells h x) [ inl e ↦ subst (λ (k : ℕ). bit_at (2 ^ x) k ≡ bit_of (on k && (b && eqb x k))) (sym e.1) (one_bit_same x (on x) b p q) | inr e ↦ one_bit_other x h (on h) b e.1 ]
+    elim (eqb_tells h x) [
+      | inl e ↦ subst (λ (k : ℕ). bit_at (2 ^ x) k ≡ bit_of (on k && (b && eqb x k))) (sym e.1)
+          (one_bit_same x (on x) b p q)
+      | inr e ↦ one_bit_other x h (on h) b e.1
+    ]
 
 max_bits : (on x y : Bool) → max (bit_of (on && x)) (bit_of (on && y)) ≡ bit_of (on && (y || x))
 max_bits false x y = refl
@@ -95,7 +104,8 @@ max_bits true false false = refl
 pub active_more : (c : Controller) (event bits mask : ℕ)
     → (eqb (bit_at c.pending event) 1 && eqb (bit_at c.enabled event) 1) ≡ true
     → ((h : ℕ) → bit_at bits h ≡ bit_of (is_enabled c h && any_below (reaches c h) event))
-    → ((h : ℕ) → bit_at mask h ≡ bit_of (is_enabled c h && (ltb (get_or c.channels event 0) 10 && eqb (get_or c.hosts (get_or c.channels event 0) 0) h)))
+    → ((h : ℕ) → bit_at mask h ≡ bit_of (is_enabled c h && (ltb (get_or c.channels event 0) 10 && eqb
+    (get_or c.hosts (get_or c.channels event 0) 0) h)))
     → (h : ℕ) → bit_at (bit_or bits mask) h ≡ bit_of (is_enabled c h && any_below (reaches c h) (suc event))
 unfolding any_below
 active_more c event bits mask active before behind h =
@@ -103,7 +113,8 @@ active_more c event bits mask active before behind h =
     ∙ ap (λ n. max n (bit_at mask h)) (before h)
     ∙ ap (λ n. max (bit_of (is_enabled c h && any_below (reaches c h) event)) n) (behind h)
     ∙ max_bits (is_enabled c h) (any_below (reaches c h) event) _
-    ∙ ap (λ a. bit_of (is_enabled c h && ((a && (ltb (get_or c.channels event 0) 10 && eqb (get_or c.hosts (get_or c.channels event 0) 0) h)) || any_below (reaches c h) event))) (sym active)
+    ∙ ap (λ a. bit_of (is_enabled c h && ((a && (ltb (get_or c.channels event 0) 10 && eqb
+    (get_or c.hosts (get_or c.channels event 0) 0) h)) || any_below (reaches c h) event))) (sym active)
 
 pub idle_more : (c : Controller) (event bits : ℕ)
     → (eqb (bit_at c.pending event) 1 && eqb (bit_at c.enabled event) 1) ≡ false
@@ -111,11 +122,13 @@ pub idle_more : (c : Controller) (event bits : ℕ)
     → (h : ℕ) → bit_at bits h ≡ bit_of (is_enabled c h && any_below (reaches c h) (suc event))
 unfolding any_below
 idle_more c event bits idle before h =
-    before h ∙ ap (λ a. bit_of (is_enabled c h && ((a && (ltb (get_or c.channels event 0) 10 && eqb (get_or c.hosts (get_or c.channels event 0) 0) h)) || any_below (reaches c h) event))) (sym idle)
+    before h ∙ ap (λ a. bit_of (is_enabled c h && ((a && (ltb (get_or c.channels event 0) 10 && eqb
+    (get_or c.hosts (get_or c.channels event 0) 0) h)) || any_below (reaches c h) event))) (sym idle)
 
 Decides-reaches : (c : Controller) (h event : ℕ) → Decides (reaches c h event) (Reaches c h event)
 Decides-reaches c h event =
-    Decides-like _ (λ p. record { pending = p.0.0; enabled = p.0.1; channel = p.1.0; leads = p.1.1 }) (λ r. ((r.pending, r.enabled), (r.channel, r.leads)))
+    Decides-like _ (λ p. record { pending = p.0.0; enabled = p.0.1; channel = p.1.0; leads = p.1.1 })
+    (λ r. ((r.pending, r.enabled), (r.channel, r.leads)))
     (Decides-and _ _ (Decides-and _ _ (Decides-eqb _ 1) (Decides-eqb _ 1)) (Decides-and _ _ (Decides-ltb _ 10) (Decides-eqb _ h)))
 
 Decides-itself : (b : Bool) → Decides b (IsTrue b)
@@ -124,35 +137,41 @@ Decides-itself b = (λ h. h, λ h. h)
 Decides-interrupts : (c : Controller) (h : ℕ) → Decides (interrupts c h) (Interrupts c h)
 Decides-interrupts c h =
     Decides-like _ (λ p. record { on = p.0.0; enabled = p.0.1; reached = p.1 }) (λ r. ((r.on, r.enabled), r.reached))
-    (Decides-and _ _ (Decides-and _ _ (Decides-itself c.on) (Decides-itself (is_enabled c h))) (Decides-any_below (reaches c h) (Reaches c h) (Decides-reaches c h) 64))
+    (Decides-and _ _ (Decides-and _ _ (Decides-itself c.on) (Decides-itself (is_enabled c h)))
+    (Decides-any_below (reaches c h) (Reaches c h) (Decides-reaches c h) 64))
 
 bit_of-one : (b : Bool) → (bit_of b ≡ 1) → b ≡ true
 bit_of-one true h = refl
 bit_of-one false h = absurd (omega arith)
 
 -- a number whose bits are the interrupts
-pub Interrupts-bits : (c : Controller) (n : ℕ) → ((h : ℕ) → bit_at n h ≡ bit_of (interrupts c h)) → (h : ℕ) → (bit_at n h ≡ 1) ↔ Interrupts c h
+pub Interrupts-bits : (c : Controller) (n : ℕ) → ((h : ℕ) → bit_at n h ≡ bit_of (interrupts c h)) → (h : ℕ)
+    → (bit_at n h ≡ 1) ↔ Interrupts c h
 Interrupts-bits c n bits h =
     (λ e. (Decides-interrupts c h).0 (bit_of-one _ (sym (bits h) ∙ e)), λ i. bits h ∙ ap bit_of ((Decides-interrupts c h).1 i))
 
 past_ten : (on : List Bool) → length on ≡ 10 → (h : ℕ) → ltb h 10 ≡ false → get_or on h false ≡ false
 past_ten on ten h past = get_or_past on h false (let le : 10 ≤ h = grind (arith, nat_tests) in omega arith)
 
-within_ten : (a b : Bool) (on : List Bool) → length on ≡ 10 → (h : ℕ) (t : Bool) → ltb h 10 ≡ t → (a && get_or on h false && b) ≡ (t && (a && get_or on h false && b))
+within_ten : (a b : Bool) (on : List Bool) → length on ≡ 10 → (h : ℕ) (t : Bool) → ltb h 10 ≡ t
+    → (a && get_or on h false && b) ≡ (t && (a && get_or on h false && b))
 within_ten a b on ten h true e = refl
 within_ten true b on ten h false e = ap (λ x. x && b) (past_ten on ten h e)
 within_ten false b on ten h false e = refl
 
-pub host_bits_of-bits : (c : Controller) (n : ℕ) → length c.hosts_on ≡ 10 → ((h : ℕ) → bit_at n h ≡ bit_of (interrupts c h)) → n ≡ host_bits_of c
+pub host_bits_of-bits : (c : Controller) (n : ℕ) → length c.hosts_on ≡ 10 → ((h : ℕ) → bit_at n h ≡ bit_of (interrupts c h))
+    → n ≡ host_bits_of c
 host_bits_of-bits c n ten bits =
-    same_from_bits n (host_bits_of c) (λ h. bits h ∙ ap bit_of (within_ten c.on (any_below (reaches c h) 64) c.hosts_on ten h (ltb h 10) refl) ∙ sym (bit_at-number_of (interrupts c) 10 h))
+    same_from_bits n (host_bits_of c) (λ h. bits h ∙ ap bit_of
+    (within_ten c.on (any_below (reaches c h) 64) c.hosts_on ten h (ltb h 10) refl) ∙ sym (bit_at-number_of (interrupts c) 10 h))
 
 -- a shift that stays within 32 bits
 one_shl : (x : ℕ) → x < 10 → 1 * 2 ^ x % 4294967296 ≡ 2 ^ x
 one_shl x h = search rules
 
 -- what `1 << host` shows, where a channel below 10 leads to an enabled host
-pub shown_bit : (hosts_on : List Bool) (hosts : List ℕ) (channel host h : ℕ) → host ≡ get_or hosts channel 0 → channel < 10 → host < 10 → get_or hosts_on host false ≡ true
+pub shown_bit : (hosts_on : List Bool) (hosts : List ℕ) (channel host h : ℕ) → host ≡ get_or hosts channel 0 → channel < 10
+    → host < 10 → get_or hosts_on host false ≡ true
     → bit_at (1 * 2 ^ host % 4294967296) h ≡ bit_of (get_or hosts_on h false && (ltb channel 10 && eqb (get_or hosts channel 0) h))
 shown_bit hosts_on hosts channel host h leads below within enabled =
     ap (λ n. bit_at n h) (one_shl _ within)
@@ -167,5 +186,6 @@ pub off_bits : (c : Controller) → c.on ≡ false → (h : ℕ) → bit_at 0 h 
 off_bits c off h = bit_at-zero h ∙ ap (λ a. bit_of (a && is_enabled c h && any_below (reaches c h) 64)) (sym off)
 
 -- where the controller is on, what is gathered of all events are the interrupts
-pub all_bits : (c : Controller) (n : ℕ) → c.on ≡ true → ((h : ℕ) → bit_at n h ≡ bit_of (is_enabled c h && any_below (reaches c h) 64)) → (h : ℕ) → bit_at n h ≡ bit_of (interrupts c h)
+pub all_bits : (c : Controller) (n : ℕ) → c.on ≡ true → ((h : ℕ)
+    → bit_at n h ≡ bit_of (is_enabled c h && any_below (reaches c h) 64)) → (h : ℕ) → bit_at n h ≡ bit_of (interrupts c h)
 all_bits c n on bits h = bits h ∙ ap (λ a. bit_of (a && is_enabled c h && any_below (reaches c h) 64)) (sym on)

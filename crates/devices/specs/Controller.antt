@@ -1,13 +1,17 @@
 -- What the interrupt controller holds, and what its registers show and do.
-use Rattle.std.specs.Prelude.{ℕ, ◌+◌, ◌*◌, ◌/◌, ◌%◌, ◌^◌, ◌==◌, Bool, true, false, if◌then◌else◌, List, slice_index, slice_set, Option, None, Some, bit_and, bit_or}
+use Rattle.std.specs.Prelude.{ℕ, ◌+◌, ◌*◌, ◌/◌, ◌%◌, ◌^◌, ◌==◌, Bool, true, false, if◌then◌else◌, List}
+use Rattle.std.specs.Prelude.{slice_index, slice_set, Option, None, Some, bit_and, bit_or}
 use Rattle.std.specs.Int.{bit_not, w64}
 use Rattle.prunum.specs.declared.width.Width.{Width}
 use Rattle.prunum.specs.declared.width.Width.TheVariants.{B4}
 use Rattle.devices.specs.Register.{register_at}
 use Rattle.devices.specs.declared.register.Register.{Register}
-use Rattle.devices.specs.declared.register.Register.TheVariants.{GlobalEnable, SetPending, ClearPending, EnableEvent, DisableEvent, EnableHost, DisableHost, PendingBits, ActiveBits, EnabledBits, Channels, Hosts}
+use Rattle.devices.specs.declared.register.Register.TheVariants.{GlobalEnable, SetPending, ClearPending, EnableEvent, DisableEvent}
+use Rattle.devices.specs.declared.register.Register.TheVariants.{EnableHost, DisableHost, PendingBits, ActiveBits, EnabledBits}
+use Rattle.devices.specs.declared.register.Register.TheVariants.{Channels, Hosts}
 
--- the global enable, the enable of each of 10 hosts, a bit for each of 64 events, the channel of each event and the host of each of 10 channels
+-- the global enable, the enable of each of 10 hosts, a bit for each of 64 events, the channel of each event and the host of each of
+-- 10 channels
 pub record Controller : Type 0 where
   pub on : Bool
   pub hosts_on : List Bool

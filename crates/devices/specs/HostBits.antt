@@ -1,5 +1,6 @@
 -- The bits that the interrupt controller shows to the hosts.
-use Rattle.std.specs.Prelude.{◌≡◌, ℕ, zero, suc, ◌+◌, ◌*◌, ◌<◌, ◌==◌, Bool, false, ◌&&◌, ◌||◌, if◌then◌else◌, nat_lt, IsTrue, slice_index, slice_index_or}
+use Rattle.std.specs.Prelude.{◌≡◌, ℕ, zero, suc, ◌+◌, ◌*◌, ◌<◌, ◌==◌, Bool, false, ◌&&◌, ◌||◌}
+use Rattle.std.specs.Prelude.{if◌then◌else◌, nat_lt, IsTrue, slice_index, slice_index_or}
 use Rattle.std.specs.Int.{bit_at}
 use Rattle.devices.specs.Controller.{Controller}
 

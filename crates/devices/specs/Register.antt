@@ -1,7 +1,10 @@
--- The registers of the interrupt controller: a part of those in the AM335x reference manual, chapter PRU-ICSS, interrupt controller registers.
+-- The registers of the interrupt controller: a part of those in the AM335x reference manual, chapter PRU-ICSS, interrupt controller
+-- registers.
 use Rattle.std.specs.Prelude.{ℕ, ◌+◌, ◌*◌, ◌<◌, ◌==◌, List, [], ◌∷◌, ◌++◌, map, find, Option}
 use Rattle.devices.specs.declared.register.Register.{Register}
-use Rattle.devices.specs.declared.register.Register.TheVariants.{GlobalEnable, SetPending, ClearPending, EnableEvent, DisableEvent, EnableHost, DisableHost, PendingBits, ActiveBits, EnabledBits, Channels, Hosts}
+use Rattle.devices.specs.declared.register.Register.TheVariants.{GlobalEnable, SetPending, ClearPending, EnableEvent, DisableEvent}
+use Rattle.devices.specs.declared.register.Register.TheVariants.{EnableHost, DisableHost, PendingBits, ActiveBits, EnabledBits}
+use Rattle.devices.specs.declared.register.Register.TheVariants.{Channels, Hosts}
 
 -- where each register stands, in bytes from the controller's first
 abbrev pub offset_of : Register → ℕ

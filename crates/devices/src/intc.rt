@@ -8,7 +8,8 @@ use std::marker::Model;
 
 /// The interrupt controller: 64 events, each with a channel, and 10 channels, each with a host.
 ///
-/// It is a part of the one in the AM335x reference manual, chapter PRU-ICSS. Only aligned accesses of 4 bytes count; others, and offsets without a register, read 0 and change nothing.
+/// It is a part of the one in the AM335x reference manual, chapter PRU-ICSS. Only aligned accesses of 4 bytes count; others, and
+/// offsets without a register, read 0 and change nothing.
 #[derive(Clone, Copy, Debug, PartialEq, Eq)]
 pub struct Intc {
     on: bool,

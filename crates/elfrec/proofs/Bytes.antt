@@ -17,7 +17,8 @@ use Rattle.elfrec.specs.Rela.{RelaFits, rela_fields, rela_format, rela_of}
 use Rattle.elfrec.specs.Section.{SectionFits, section_fields, section_format}
 use Rattle.elfrec.specs.Segment.{SegmentFits, segment_fields, segment_format}
 use Rattle.elfrec.specs.Symbol.{SymbolFits, symbol_fields, symbol_format}
-use Rattle.elfrec.proofs.Numbers.{wide8, wide16, wide32, AreWide, AreAll, all_fields_take, all_fields_again, fields_take, fields_again, fields_of}
+use Rattle.elfrec.proofs.Numbers.{wide8, wide16, wide32, AreWide, AreAll, all_fields_take}
+use Rattle.elfrec.proofs.Numbers.{all_fields_again, fields_take, fields_again, fields_of}
 use Rattle.elfrec.proofs.Stands.{TextStands, stands_whole, stands_back, whole_stands, stands_both}
 
 -- the number of the k-th field
@@ -125,9 +126,11 @@ abbrev rela_from : List Field → Rela
 rela_from fields = record { offset = number 0 fields; info = number 1 fields; addend = cast_signed w32 (number 2 fields) }
 
 -- the relocation's fields are those that stand in its bytes
-rela_fields_same : (bytes : List ℕ) → AreAll bytes (fields_of rela_widths 0 bytes) → rela_fields (rela_of bytes) ≡ fields_of rela_widths 0 bytes
+rela_fields_same : (bytes : List ℕ) → AreAll bytes (fields_of rela_widths 0 bytes)
+    → rela_fields (rela_of bytes) ≡ fields_of rela_widths 0 bytes
 rela_fields_same bytes all =
-    let e : cast_unsigned w32 (cast_signed w32 (number 2 (fields_of rela_widths 0 bytes))) ≡ number 2 (fields_of rela_widths 0 bytes) = of_z-to_z w32 _ all.fit.1.1.0 in
+    let e : cast_unsigned w32 (cast_signed w32 (number 2 (fields_of rela_widths 0 bytes)))
+    ≡ number 2 (fields_of rela_widths 0 bytes) = of_z-to_z w32 _ all.fit.1.1.0 in
     ap (λ (n : ℕ). (w32, number 0 (fields_of rela_widths 0 bytes)) ∷ (w32, number 1 (fields_of rela_widths 0 bytes)) ∷ (w32, n) ∷ []) e
 
 rela_same : (bytes : List ℕ) → IsBytes bytes → length bytes ≡ 12 → fields_bytes (rela_fields (rela_of bytes)) ≡ bytes
@@ -145,7 +148,8 @@ with_addend offset info addend = record { offset = offset; info = info; addend =
 
 rela_again : (r : Rela) → RelaFits r → rela_of (fields_bytes (rela_fields r)) ≡ r
 rela_again r fits =
-    let read : rela_from (fields_of rela_widths 0 (fields_bytes (rela_fields r))) ≡ rela_from (rela_fields r) = ap rela_from (all_fields_again (rela_fields r) rela_wide fits.0) in
+    let read : rela_from (fields_of rela_widths 0 (fields_bytes (rela_fields r))) ≡ rela_from (rela_fields r) =
+    ap rela_from (all_fields_again (rela_fields r) rela_wide fits.0) in
     let back : cast_signed w32 (cast_unsigned w32 r.addend) ≡ r.addend = to_z-of_z w32 r.addend fits.1 in
     read ∙ ap (with_addend r.offset r.info) back
 
@@ -164,7 +168,25 @@ abbrev header_widths : List Width
 header_widths = w16 ∷ w16 ∷ w32 ∷ w32 ∷ w32 ∷ w32 ∷ w32 ∷ w16 ∷ w16 ∷ w16 ∷ w16 ∷ w16 ∷ w16 ∷ []
 
 header_wide : AreWide header_widths
-header_wide = (wide16, (wide16, (wide32, (wide32, (wide32, (wide32, (wide32, (wide16, (wide16, (wide16, (wide16, (wide16, (wide16, tt)))))))))))))
+header_wide = (
+  wide16,
+  (
+    wide16,
+    (
+      wide32,
+      (
+        wide32,
+        (
+          wide32,
+          (
+            wide32,
+            (wide32, (wide16, (wide16, (wide16, (wide16, (wide16, (wide16, tt))))))),
+          ),
+        ),
+      ),
+    ),
+  ),
+)
 
 abbrev header_from : List ℕ → List Field → Header
 header_from identification fields = record {
@@ -187,7 +209,8 @@ header_from identification fields = record {
 identification_long : (bytes : List ℕ) → length bytes ≡ 52 → length (take 16 bytes) ≡ 16
 identification_long bytes e = omega (arith, length-take 16 bytes)
 
-header_same : (bytes : List ℕ) → IsBytes bytes → length bytes ≡ 52 → take 16 bytes ++ fields_bytes (fields_of header_widths 16 bytes) ≡ bytes
+header_same : (bytes : List ℕ) → IsBytes bytes → length bytes ≡ 52
+    → take 16 bytes ++ fields_bytes (fields_of header_widths 16 bytes) ≡ bytes
 header_same bytes fits e =
     let read = fields_take header_widths 16 bytes header_wide fits (omega arith) in
     let len = identification_long bytes e in
@@ -195,7 +218,8 @@ header_same bytes fits e =
     let here : TextStands bytes 0 (take 16 bytes) = ap (λ (n : ℕ). take n bytes) len in
     let place : 16 ≡ 0 + length (take 16 bytes) = omega arith in
     let behind : TextStands bytes (0 + length (take 16 bytes)) others = subst (λ (n : ℕ). TextStands bytes n others) place read.stand in
-    whole_stands bytes (take 16 bytes ++ others) (omega (arith, length-append (take 16 bytes) others, read.long)) (stands_both bytes 0 (take 16 bytes) others here behind)
+    whole_stands bytes (take 16 bytes ++ others) (omega (arith, length-append (take 16 bytes) others, read.long))
+    (stands_both bytes 0 (take 16 bytes) others here behind)
 
 header_fits : (bytes : List ℕ) → IsBytes bytes → length bytes ≡ 52 → HeaderFits (header_format.from_bytes bytes)
 header_fits bytes fits e = ((fields_take header_widths 16 bytes header_wide fits (omega arith)).fit, identification_long bytes e)
@@ -206,7 +230,8 @@ header_again h fits =
     let whole : List ℕ = h.identification ++ others in
     let front : take 16 whole ≡ h.identification = take_at h.identification others 16 fits.1 in
     let place : 0 + length h.identification ≡ 16 = omega (arith, fits.1) in
-    let behind : TextStands whole 16 others = subst (λ (n : ℕ). TextStands whole n others) place (stands_back whole 0 h.identification others (stands_whole whole)) in
+    let behind : TextStands whole 16 others = subst (λ (n : ℕ). TextStands whole n others) place
+    (stands_back whole 0 h.identification others (stands_whole whole)) in
     let read : fields_of header_widths 16 whole ≡ header_fields h = fields_again (header_fields h) 16 whole header_wide fits.0 behind in
     ap (λ (i : List ℕ). header_from i (fields_of header_widths 16 whole)) front ∙ ap (header_from h.identification) read
 

@@ -1,5 +1,6 @@
 -- A file that is read has its parts in the bytes, and a file whose parts stand in the bytes is read.
-use Rattle.std.proofs.Common.{◌≡◌, ℕ, suc, ◌+◌, ◌*◌, ◌/◌, ◌%◌, true, false, ltb, eqb, ◌&&◌, List, [], ◌∷◌, length, take, drop, Result, Ok, Err, refl, sym, ap, subst, ◌∙◌, arith, inl, inr}
+use Rattle.std.proofs.Common.{◌≡◌, ℕ, suc, ◌+◌, ◌*◌, ◌/◌, ◌%◌, true, false, ltb, eqb, ◌&&◌, List, [], ◌∷◌, length, take}
+use Rattle.std.proofs.Common.{drop, Result, Ok, Err, refl, sym, ap, subst, ◌∙◌, arith, inl, inr}
 use Rattle.std.specs.Prelude.{IfOk}
 use Rattle.std.specs.List.{AllByRecursion}
 use Rattle.std.proofs.lemmas.Bool.{cases_lt, ltb-false, le-ltb, eqb-true, eq-eqb, and_parts, and_from, and_cases, and_left, and_right}
@@ -16,7 +17,8 @@ use Rattle.elfrec.specs.declared.section.Section.{Section}
 use Rattle.elfrec.specs.declared.section.SectionKind.{SectionKind}
 use Rattle.elfrec.specs.declared.section.SectionKind.TheVariants.{Empty, Symbols, Relas, Bytes}
 use Rattle.elfrec.specs.declared.symbol.Symbol.{Symbol}
-use Rattle.elfrec.specs.File.{contents_bytes, section_parts, parts, Describes, EachDescribes, IsMeasured, ContentsFit, FileFits, Stands, IsFileOf, IsLaidOut, contents_of, all_contents_of, file_of}
+use Rattle.elfrec.specs.File.{contents_bytes, section_parts, parts, Describes, EachDescribes, IsMeasured, ContentsFit}
+use Rattle.elfrec.specs.File.{FileFits, Stands, IsFileOf, IsLaidOut, contents_of, all_contents_of, file_of}
 use Rattle.elfrec.specs.Header.{HeaderFits, header_format}
 use Rattle.elfrec.specs.Record.{Format, IsBytes, ◌>>=◌, Gives, bytes_at, record_at, records_at}
 use Rattle.elfrec.specs.Rela.{RelaFits, rela_format}
@@ -28,7 +30,8 @@ use Rattle.elfrec.proofs.Records.{bind_ok, guard_ok, ok_is, AreRead, record_take
 use Rattle.elfrec.proofs.Stands.{TextStands, stands_within}
 
 -- every record of a kind that gives no sizes has the right ones
-all_sized : {R : Type 0} (format : Format R) → ((r : R) → format.has_right_sizes r ≡ true) → (rs : List R) → AllByRecursion (λ r. format.has_right_sizes r ≡ true) rs
+all_sized : {R : Type 0} (format : Format R) → ((r : R) → format.has_right_sizes r ≡ true) → (rs : List R)
+    → AllByRecursion (λ r. format.has_right_sizes r ≡ true) rs
 all_sized format each [] = tt
 all_sized format each (r ∷ rs) = (each r, all_sized format each rs)
 
@@ -63,7 +66,8 @@ pub record IsHeld (bytes : List ℕ) (s : Section) (c : Contents) : Type 0 where
   pub fit : ContentsFit c
   pub stands : TextStands bytes s.offset (contents_bytes c)
 
-contents_take : (k : SectionKind) (s : Section) (bytes : List ℕ) (c : Contents) → IsBytes bytes → kind_of s.section_type ≡ k → has_entry_sizes k s.entry_size s.size ≡ true → contents_of k s bytes ≡ Ok c → IsHeld bytes s c
+contents_take : (k : SectionKind) (s : Section) (bytes : List ℕ) (c : Contents) → IsBytes bytes → kind_of s.section_type ≡ k
+    → has_entry_sizes k s.entry_size s.size ≡ true → contents_of k s bytes ≡ Ok c → IsHeld bytes s c
 unfolding contents_of
 contents_take Empty s bytes c byte kind sizes e =
     subst (IsHeld bytes s) (ok_is held.Empty c e) (record { describes = kind; fit = tt; stands = refl })
@@ -73,14 +77,16 @@ contents_take Symbols s bytes c byte kind sizes e =
     let p = and_parts (eqb s.entry_size 16) (eqb (s.size % 16) 0) sizes in
     let even : s.size % 16 ≡ 0 = eqb-true _ _ p.1 in
     let size : s.size ≡ 16 * length a.0 = omega (arith, t.1) in
-    subst (IsHeld bytes s) (ok_is (held.Symbols a.0) c a.2) (record { describes = (kind, eqb-true _ _ p.0, size); fit = t.0.fit; stands = t.0.stand })
+    subst (IsHeld bytes s) (ok_is (held.Symbols a.0) c a.2) (record
+    { describes = (kind, eqb-true _ _ p.0, size); fit = t.0.fit; stands = t.0.stand })
 contents_take Relas s bytes c byte kind sizes e =
     let a = bind_ok (records_at rela_format (s.size / 12) s.offset bytes) (λ xs. Ok (held.Relas xs)) c e in
     let t = records_take rela_format RelaFits (s.size / 12) s.offset bytes a.0 rela_exact byte a.1 in
     let p = and_parts (eqb s.entry_size 12) (eqb (s.size % 12) 0) sizes in
     let even : s.size % 12 ≡ 0 = eqb-true _ _ p.1 in
     let size : s.size ≡ 12 * length a.0 = omega (arith, t.1) in
-    subst (IsHeld bytes s) (ok_is (held.Relas a.0) c a.2) (record { describes = (kind, eqb-true _ _ p.0, size); fit = t.0.fit; stands = t.0.stand })
+    subst (IsHeld bytes s) (ok_is (held.Relas a.0) c a.2) (record
+    { describes = (kind, eqb-true _ _ p.0, size); fit = t.0.fit; stands = t.0.stand })
 contents_take Bytes s bytes c byte kind sizes e =
     let a = bind_ok (bytes_at s.size s.offset bytes) (λ text. Ok (held.Bytes text)) c e in
     let t = bytes_take s.size s.offset bytes a.0 a.1 in
@@ -91,16 +97,20 @@ unfolding contents_of
 contents_again s bytes held.Empty h = ap (λ (k : SectionKind). contents_of k s bytes) h.describes
 contents_again s bytes (held.Symbols xs) h =
     let n : s.size / 16 ≡ length xs = omega (arith, h.describes.2) in
-    let read : AreRead symbol_format SymbolFits bytes s.offset xs = record { stand = h.stands; fit = h.fit; sized = all_sized symbol_format (λ _. refl) xs } in
+    let read : AreRead symbol_format SymbolFits bytes s.offset xs =
+    record { stand = h.stands; fit = h.fit; sized = all_sized symbol_format (λ _. refl) xs } in
     ap (λ (k : SectionKind). contents_of k s bytes) h.describes.0
     ∙ ap (λ (k : ℕ). records_at symbol_format k s.offset bytes >>= λ ys. Ok (held.Symbols ys)) n
-    ∙ ap (λ (r : Result (List Symbol) ElfFault). r >>= λ ys. Ok (held.Symbols ys)) (records_again symbol_format SymbolFits xs s.offset bytes symbol_exact read)
+    ∙ ap (λ (r : Result (List Symbol) ElfFault). r >>= λ ys. Ok (held.Symbols ys))
+    (records_again symbol_format SymbolFits xs s.offset bytes symbol_exact read)
 contents_again s bytes (held.Relas xs) h =
     let n : s.size / 12 ≡ length xs = omega (arith, h.describes.2) in
-    let read : AreRead rela_format RelaFits bytes s.offset xs = record { stand = h.stands; fit = h.fit; sized = all_sized rela_format (λ _. refl) xs } in
+    let read : AreRead rela_format RelaFits bytes s.offset xs =
+    record { stand = h.stands; fit = h.fit; sized = all_sized rela_format (λ _. refl) xs } in
     ap (λ (k : SectionKind). contents_of k s bytes) h.describes.0
     ∙ ap (λ (k : ℕ). records_at rela_format k s.offset bytes >>= λ ys. Ok (held.Relas ys)) n
-    ∙ ap (λ (r : Result (List Rela) ElfFault). r >>= λ ys. Ok (held.Relas ys)) (records_again rela_format RelaFits xs s.offset bytes rela_exact read)
+    ∙ ap (λ (r : Result (List Rela) ElfFault). r >>= λ ys. Ok (held.Relas ys))
+    (records_again rela_format RelaFits xs s.offset bytes rela_exact read)
 contents_again s bytes (held.Bytes text) h =
     ap (λ (k : SectionKind). contents_of k s bytes) h.describes.0
     ∙ ap (λ (r : Result (List ℕ) ElfFault). r >>= λ ys. Ok (held.Bytes ys)) (bytes_again s.size s.offset bytes text h.describes.1 h.stands)
@@ -116,26 +126,31 @@ pub record AreHeld (bytes : List ℕ) (sections : List Section) (contents : List
   pub fit : AllByRecursion ContentsFit contents
   pub stand : AllByRecursion (Stands bytes) (section_parts sections contents)
 
-all_contents_take : (sections : List Section) (bytes : List ℕ) (contents : List Contents) → IsBytes bytes → AreSized sections → all_contents_of sections bytes ≡ Ok contents → AreHeld bytes sections contents
+all_contents_take : (sections : List Section) (bytes : List ℕ) (contents : List Contents) → IsBytes bytes → AreSized sections
+    → all_contents_of sections bytes ≡ Ok contents → AreHeld bytes sections contents
 unfolding all_contents_of
 all_contents_take [] bytes contents byte sized e =
     subst (AreHeld bytes []) (ok_is [] contents e) (record { describe = tt; fit = tt; stand = tt })
 all_contents_take (s ∷ sections) bytes contents byte sized e =
-    let a = bind_ok (contents_of (kind_of s.section_type) s bytes) (λ first. all_contents_of sections bytes >>= λ others. Ok (first ∷ others)) contents e in
+    let a = bind_ok (contents_of (kind_of s.section_type) s bytes)
+    (λ first. all_contents_of sections bytes >>= λ others. Ok (first ∷ others)) contents e in
     let b = bind_ok (all_contents_of sections bytes) (λ others. Ok (a.0 ∷ others)) contents a.2 in
     let first = contents_take (kind_of s.section_type) s bytes a.0 byte refl sized.0 a.1 in
     let others = all_contents_take sections bytes b.0 byte sized.1 b.1 in
     subst (AreHeld bytes (s ∷ sections)) (ok_is (a.0 ∷ b.0) contents b.2)
     (record { describe = (first.describes, others.describe); fit = (first.fit, others.fit); stand = (first.stands, others.stand) })
 
-all_contents_again : (sections : List Section) (bytes : List ℕ) (contents : List Contents) → AreHeld bytes sections contents → all_contents_of sections bytes ≡ Ok contents
+all_contents_again : (sections : List Section) (bytes : List ℕ) (contents : List Contents) → AreHeld bytes sections contents
+    → all_contents_of sections bytes ≡ Ok contents
 unfolding all_contents_of
 all_contents_again [] bytes [] h = refl
 all_contents_again [] bytes (c ∷ contents) h = absurd h.describe
 all_contents_again (s ∷ sections) bytes [] h = absurd h.describe
 all_contents_again (s ∷ sections) bytes (c ∷ contents) h =
-    let first : contents_of (kind_of s.section_type) s bytes ≡ Ok c = contents_again s bytes c (record { describes = h.describe.0; fit = h.fit.0; stands = h.stand.0 }) in
-    let others : all_contents_of sections bytes ≡ Ok contents = all_contents_again sections bytes contents (record { describe = h.describe.1; fit = h.fit.1; stand = h.stand.1 }) in
+    let first : contents_of (kind_of s.section_type) s bytes ≡ Ok c =
+    contents_again s bytes c (record { describes = h.describe.0; fit = h.fit.0; stands = h.stand.0 }) in
+    let others : all_contents_of sections bytes ≡ Ok contents =
+    all_contents_again sections bytes contents (record { describe = h.describe.1; fit = h.fit.1; stand = h.stand.1 }) in
     rw (first, others) refl
 
 -- a section header that describes what its section holds gives the right sizes
@@ -166,19 +181,26 @@ each_held (s ∷ sections) (c ∷ contents) d = ap suc (each_held sections conte
 pub file_take : (bytes : List ℕ) (f : ElfFile) → IsBytes bytes → file_of bytes ≡ Ok f → IsFileOf f bytes
 unfolding file_of
 file_take bytes f byte e =
-    let a = bind_ok (record_at header_format 0 bytes) (λ header. records_at segment_format header.program_header_count header.program_header_offset bytes >>= λ segments.
-    records_at section_format header.section_header_count header.section_header_offset bytes >>= λ sections. all_contents_of sections bytes >>= λ contents.
+    let a = bind_ok (record_at header_format 0 bytes) (λ header. records_at segment_format header.program_header_count
+    header.program_header_offset bytes >>= λ segments.
+    records_at section_format header.section_header_count header.section_header_offset bytes >>= λ sections. all_contents_of
+    sections bytes >>= λ contents.
     Ok (record { header = header; segments = segments; sections = sections; contents = contents })) f e in
     let header : Header = a.0 in
     let b = bind_ok (records_at segment_format header.program_header_count header.program_header_offset bytes) (λ segments.
-    records_at section_format header.section_header_count header.section_header_offset bytes >>= λ sections. all_contents_of sections bytes >>= λ contents.
+    records_at section_format header.section_header_count header.section_header_offset bytes >>= λ sections. all_contents_of
+    sections bytes >>= λ contents.
     Ok (record { header = header; segments = segments; sections = sections; contents = contents })) f a.2 in
-    let c = bind_ok (records_at section_format header.section_header_count header.section_header_offset bytes) (λ sections. all_contents_of sections bytes >>= λ contents.
+    let c = bind_ok (records_at section_format header.section_header_count header.section_header_offset bytes)
+    (λ sections. all_contents_of sections bytes >>= λ contents.
     Ok (record { header = header; segments = b.0; sections = sections; contents = contents })) f b.2 in
-    let d = bind_ok (all_contents_of c.0 bytes) (λ contents. Ok (record { header = header; segments = b.0; sections = c.0; contents = contents })) f c.2 in
+    let d = bind_ok (all_contents_of c.0 bytes) (λ contents. Ok
+    (record { header = header; segments = b.0; sections = c.0; contents = contents })) f c.2 in
     let h = record_take header_format HeaderFits 0 bytes header header_exact byte a.1 in
-    let segments = records_take segment_format SegmentFits header.program_header_count header.program_header_offset bytes b.0 segment_exact byte b.1 in
-    let sections = records_take section_format SectionFits header.section_header_count header.section_header_offset bytes c.0 section_exact byte c.1 in
+    let segments = records_take segment_format SegmentFits header.program_header_count header.program_header_offset bytes b.0
+    segment_exact byte b.1 in
+    let sections = records_take section_format SectionFits header.section_header_count header.section_header_offset bytes c.0
+    section_exact byte c.1 in
     let held = all_contents_take c.0 bytes d.0 byte sections.0.sized d.1 in
     let p = and_parts (eqb header.program_header_size 32) (eqb header.section_header_size 40) h.sized in
     let made : ElfFile = record { header = header; segments = b.0; sections = c.0; contents = d.0 } in
@@ -194,7 +216,8 @@ file_take bytes f byte e =
       stands = (h.stands, (segments.0.stand, (sections.0.stand, held.stand)));
     })
 
-pub is_found : (bytes : List ℕ) (r : Result ElfFile ElfFault) → IsBytes bytes → Gives (λ f. f) r (file_of bytes) → IfOk r (λ f. IsFileOf f bytes)
+pub is_found : (bytes : List ℕ) (r : Result ElfFile ElfFault) → IsBytes bytes → Gives (λ f. f) r (file_of bytes)
+    → IfOk r (λ f. IsFileOf f bytes)
 is_found bytes (Ok f) byte given = file_take bytes f byte given
 is_found bytes (Err e) byte given = tt
 
@@ -202,13 +225,21 @@ pub file_again : (bytes : List ℕ) (f : ElfFile) → IsFileOf f bytes → file_
 unfolding file_of
 file_again bytes f is =
     let m = is.measured in
-    let sizes : header_format.has_right_sizes f.header ≡ true = and_from (eqb f.header.program_header_size 32) (eqb f.header.section_header_size 40) (eq-eqb _ _ m.program_header_size) (eq-eqb _ _ m.section_header_size) in
-    let header : record_at header_format 0 bytes ≡ Ok f.header = record_again header_format HeaderFits 0 bytes f.header header_exact (record { stands = is.stands.0; fits = is.fits.header; sized = sizes }) in
+    let sizes : header_format.has_right_sizes f.header ≡ true =
+    and_from (eqb f.header.program_header_size 32) (eqb f.header.section_header_size 40) (eq-eqb _ _ m.program_header_size)
+    (eq-eqb _ _ m.section_header_size) in
+    let header : record_at header_format 0 bytes ≡ Ok f.header =
+    record_again header_format HeaderFits 0 bytes f.header header_exact
+    (record { stands = is.stands.0; fits = is.fits.header; sized = sizes }) in
     let segments : records_at segment_format (length f.segments) f.header.program_header_offset bytes ≡ Ok f.segments =
-    records_again segment_format SegmentFits f.segments f.header.program_header_offset bytes segment_exact (record { stand = is.stands.1.0; fit = is.fits.segments; sized = all_sized segment_format (λ _. refl) f.segments }) in
+    records_again segment_format SegmentFits f.segments f.header.program_header_offset bytes segment_exact
+    (record { stand = is.stands.1.0; fit = is.fits.segments; sized = all_sized segment_format (λ _. refl) f.segments }) in
     let sections : records_at section_format (length f.sections) f.header.section_header_offset bytes ≡ Ok f.sections =
-    records_again section_format SectionFits f.sections f.header.section_header_offset bytes section_exact (record { stand = is.stands.1.1.0; fit = is.fits.sections; sized = each_sized f.sections f.contents m.contents }) in
-    let contents : all_contents_of f.sections bytes ≡ Ok f.contents = all_contents_again f.sections bytes f.contents (record { describe = m.contents; fit = is.fits.contents; stand = is.stands.1.1.1 }) in
+    records_again section_format SectionFits f.sections f.header.section_header_offset bytes section_exact
+    (record { stand = is.stands.1.1.0; fit = is.fits.sections; sized = each_sized f.sections f.contents m.contents }) in
+    let contents : all_contents_of f.sections bytes ≡ Ok f.contents =
+    all_contents_again f.sections bytes f.contents (record
+    { describe = m.contents; fit = is.fits.contents; stand = is.stands.1.1.1 }) in
     rw (header, m.segments, segments, m.sections, sections, contents) refl
 
 -- what is written is read again

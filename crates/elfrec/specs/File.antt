@@ -1,5 +1,6 @@
 -- ELF files: which parts they have, and what is read of one.
-use Rattle.std.specs.Prelude.{◌≡◌, ℕ, ◌+◌, ◌*◌, ◌/◌, ◌<◌, ◌≤◌, ◌==◌, max, if◌then◌else◌, List, [], ◌∷◌, length, take, drop, slice_index, Result, Ok}
+use Rattle.std.specs.Prelude.{◌≡◌, ℕ, ◌+◌, ◌*◌, ◌/◌, ◌<◌, ◌≤◌, ◌==◌, max, if◌then◌else◌, List, []}
+use Rattle.std.specs.Prelude.{◌∷◌, length, take, drop, slice_index, Result, Ok}
 use Rattle.std.specs.List.{flat_map, AllByRecursion}
 use Rattle.elfrec.specs.declared.fault.ElfFault.{ElfFault}
 use Rattle.elfrec.specs.declared.file.Contents.{Contents}
@@ -44,8 +45,10 @@ parts f =
 -- the section header says what the section holds
 abbrev pub Describes : Section → Contents → Type 0
 Describes s held.Empty = kind_of s.section_type ≡ Empty
-Describes s (held.Symbols symbols) = (kind_of s.section_type ≡ Symbols) × (s.entry_size ≡ symbol_format.size) × (s.size ≡ symbol_format.size * length symbols)
-Describes s (held.Relas relas) = (kind_of s.section_type ≡ Relas) × (s.entry_size ≡ rela_format.size) × (s.size ≡ rela_format.size * length relas)
+Describes s (held.Symbols symbols) = (kind_of s.section_type ≡ Symbols) × (s.entry_size ≡ symbol_format.size)
+    × (s.size ≡ symbol_format.size * length symbols)
+Describes s (held.Relas relas) = (kind_of s.section_type ≡ Relas) × (s.entry_size ≡ rela_format.size)
+    × (s.size ≡ rela_format.size * length relas)
 Describes s (held.Bytes bytes) = (kind_of s.section_type ≡ Bytes) × (s.size ≡ length bytes)
 
 abbrev pub EachDescribes : List Section → List Contents → Type 0

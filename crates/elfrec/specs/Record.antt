@@ -1,5 +1,6 @@
 -- Records of a fixed number of bytes, and reading them with the first fault.
-use Rattle.std.specs.Prelude.{◌≡◌, ℕ, zero, suc, ◌+◌, ◌<◌, nat_lt, ◌&&◌, if◌then◌else◌, List, [], ◌∷◌, length, take, drop, slice_index, Bool, Result, Ok, Err}
+use Rattle.std.specs.Prelude.{◌≡◌, ℕ, zero, suc, ◌+◌, ◌<◌, nat_lt, ◌&&◌, if◌then◌else◌, List, [], ◌∷◌}
+use Rattle.std.specs.Prelude.{length, take, drop, slice_index, Bool, Result, Ok, Err}
 use Rattle.elfrec.specs.declared.fault.ElfCause.TheVariants.{Short, Size}
 use Rattle.elfrec.specs.declared.fault.ElfFault.{ElfFault}
 use Rattle.elfrec.specs.declared.fault.ElfFault.TheVariants.{At, Memory}

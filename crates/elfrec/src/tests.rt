@@ -116,7 +116,8 @@ fn relas() -> Section
 }
 
 fn contents(alloc: Global) -> Result<Vec<Contents>, Memory>
-    ensures { IfOk result (λ v. v.items ≡ Contents.Bytes (16 ∷ 32 ∷ 48 ∷ 64 ∷ []) ∷ Contents.Symbols (SYMBOL ∷ []) ∷ Contents.Relas (RELA ∷ []) ∷ []) }
+    ensures { IfOk result (λ v. v.items ≡ Contents.Bytes (16 ∷ 32 ∷ 48 ∷ 64 ∷ []) ∷ Contents.Symbols (SYMBOL ∷ [])
+        ∷ Contents.Relas (RELA ∷ []) ∷ []) }
 {
     let bytes = vec![in alloc; 16, 32, 48, 64]?;
     let symbols = vec![in alloc; SYMBOL]?;

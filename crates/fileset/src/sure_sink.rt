@@ -49,7 +49,8 @@ impl Sink for SureSink {
 
     fn put(&mut self, bytes: &[u8]) -> Result<(), Failed>
         ensures room { self.new.room ≡ record self.old.room { taken = take self.old.room.size (self.old.room.taken ++ bytes.now) } }
-        ensures whole { IsTrue self.new.whole ↔ (IsTrue self.old.whole × (length self.old.room.taken + length bytes.now ≤ self.old.room.size)) }
+        ensures whole { IsTrue self.new.whole ↔ (IsTrue self.old.whole
+            × (length self.old.room.taken + length bytes.now ≤ self.old.room.size)) }
         ensures sure { IsOk result }
     {
         self.whole = self.whole && self.room.fits(bytes);

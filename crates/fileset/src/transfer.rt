@@ -36,7 +36,8 @@ pub fn read_front<R: Read>(
 /// Writes the bytes. After a failure a front of them is written. A write that takes none of them is a failure.
 pub fn write_whole<W: Write>(writer: &mut W, bytes: &[u8]) -> Result<(), Failed>
     ensures whole { OnOk result (Appends (W.contents writer.old) (W.contents writer.new) bytes.now) }
-    ensures front { OnErr result ((front : List ℕ) × IsFrontOf front bytes.now × Appends (W.contents writer.old) (W.contents writer.new) front) }
+    ensures front { OnErr result ((front : List ℕ) × IsFrontOf front bytes.now
+        × Appends (W.contents writer.old) (W.contents writer.new) front) }
 {
     let mut rest = bytes;
     while !rest.is_empty() {

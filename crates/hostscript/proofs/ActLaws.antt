@@ -1,5 +1,6 @@
 -- An act's line is read as it is printed, and what is read is printed so.
-use Rattle.std.proofs.Common.{◌≡◌, ℕ, ◌%◌, ◌^◌, ◌-◌, ◌<◌, ◌≤◌, Bool, true, false, cond, ◌&&◌, ◌==◌, nat_le, nat_lt, List, [], ◌∷◌, length, Option, Some, None, Result, Ok, Err, refl, sym, ap, ◌∙◌, arith, codes, option_and_then, subst}
+use Rattle.std.proofs.Common.{◌≡◌, ℕ, ◌%◌, ◌^◌, ◌-◌, ◌<◌, ◌≤◌, Bool, true, false, cond, ◌&&◌, ◌==◌, nat_le, nat_lt, List, [], ◌∷◌}
+use Rattle.std.proofs.Common.{length, Option, Some, None, Result, Ok, Err, refl, sym, ap, ◌∙◌, arith, codes, option_and_then, subst}
 use Rattle.std.specs.Option.{ok_or}
 use Rattle.std.specs.List.{list_all}
 use Rattle.std.specs.Str.{bytes_eq}
@@ -23,11 +24,13 @@ use Rattle.hostscript.specs.declared.action.Act.{Act}
 use Rattle.hostscript.specs.Acts.{may_be_poked, IsPoke, IsAction, IsAct, action_fields, act_fields}
 use Rattle.hostscript.specs.Reading.{◌>>=◌, at_end, width_of, poke_of, poke_in, pins_in, event_in, start_in, action_in, act_in}
 
-pub bind_ok : {A B : Type 0} (r : Result A ScriptCause) (f : A → Result B ScriptCause) (y : B) → (r >>= f) ≡ Ok y → (x : A) × (r ≡ Ok x) × (f x ≡ Ok y)
+pub bind_ok : {A B : Type 0} (r : Result A ScriptCause) (f : A → Result B ScriptCause) (y : B) → (r >>= f) ≡ Ok y
+    → (x : A) × (r ≡ Ok x) × (f x ≡ Ok y)
 bind_ok (Ok x) f y e = (x, refl, e)
 bind_ok (Err cause) f y e = absurd (cc)
 
-pub field_ok : {A B : Type 0} (o : Option A) (f : A → Result B ScriptCause) (y : B) → (ok_or o Form >>= f) ≡ Ok y → (x : A) × (o ≡ Some x) × (f x ≡ Ok y)
+pub field_ok : {A B : Type 0} (o : Option A) (f : A → Result B ScriptCause) (y : B) → (ok_or o Form >>= f) ≡ Ok y
+    → (x : A) × (o ≡ Some x) × (f x ≡ Ok y)
 field_ok None f y e = absurd (cc)
 field_ok (Some x) f y e = (x, refl, e)
 
@@ -41,7 +44,8 @@ choice_ok false x y e = absurd (cc)
 
 end_ok : {A : Type 0} (rest : List (List ℕ)) (r : Result A ScriptCause) (y : A) → at_end rest r ≡ Ok y → (rest ≡ []) × (r ≡ Ok y)
 end_ok [] r y e = (refl, e)
-end_ok (word ∷ rest) r y e = absurd (let h = ap (λ t. cond t r (Err Form)) (sym (ne_eqb (length (word ∷ rest)) 0 (λ z. omega arith))) ∙ e in cc)
+end_ok (word ∷ rest) r y e =
+    absurd (let h = ap (λ t. cond t r (Err Form)) (sym (ne_eqb (length (word ∷ rest)) 0 (λ z. omega arith))) ∙ e in cc)
 
 pub some_field : {A B : Type 0} (o : Option A) (x : A) (f : A → Result B ScriptCause) → o ≡ Some x → (ok_or o Form >>= f) ≡ f x
 some_field o x f e = ap (λ p. ok_or p Form >>= f) e
@@ -58,15 +62,18 @@ width_of_count B1 = refl
 width_of_count B2 = refl
 width_of_count B4 = refl
 
-poke_back : (addr n value : ℕ) (action : Action) → poke_of addr n value ≡ Some action → (w : Width) × (n ≡ byte_count w) × IsPoke addr w value × (action ≡ Poke addr w value)
+poke_back : (addr n value : ℕ) (action : Action) → poke_of addr n value ≡ Some action
+    → (w : Width) × (n ≡ byte_count w) × IsPoke addr w value × (action ≡ Poke addr w value)
 poke_back addr n value action e = by (width_of n) refl e
   where
     by : (o : Option Width) → width_of n ≡ o
-        → option_and_then (λ w. cond (may_be_poked addr && addr % byte_count w == 0 && nat_lt value (256 ^ byte_count w)) (Some (Poke addr w value)) None) o ≡ Some action
+        → option_and_then (λ w. cond (may_be_poked addr && addr % byte_count w == 0 && nat_lt value (256 ^ byte_count w))
+        (Some (Poke addr w value)) None) o ≡ Some action
         → (w : Width) × (n ≡ byte_count w) × IsPoke addr w value × (action ≡ Poke addr w value)
     by None is e = absurd (cc)
     by (Some w) is e =
-        let told = cond_some (may_be_poked addr && addr % byte_count w == 0 && nat_lt value (256 ^ byte_count w)) (Poke addr w value) action e in
+        let told = cond_some (may_be_poked addr && addr % byte_count w == 0 && nat_lt value (256 ^ byte_count w))
+        (Poke addr w value) action e in
         let outer = and_parts (may_be_poked addr && addr % byte_count w == 0) _ told.0 in
         let inner = and_parts (may_be_poked addr) _ outer.0 in (
           w,
@@ -77,8 +84,10 @@ poke_back addr n value action e = by (width_of n) refl e
 
 poke_there : (addr value : ℕ) (w : Width) → IsPoke addr w value → poke_of addr (byte_count w) value ≡ Some (Poke addr w value)
 poke_there addr value w h =
-    ap (option_and_then (λ w. cond (may_be_poked addr && addr % byte_count w == 0 && nat_lt value (256 ^ byte_count w)) (Some (Poke addr w value)) None)) (width_of_count w)
-    ∙ ap (λ t. cond t (Some (Poke addr w value)) None) (and_from _ _ (and_from (may_be_poked addr) _ h.window (eq-eqb _ 0 h.aligned)) (lt-ltb _ _ h.fits))
+    ap (option_and_then (λ w. cond (may_be_poked addr && addr % byte_count w == 0 && nat_lt value (256 ^ byte_count w))
+    (Some (Poke addr w value)) None)) (width_of_count w)
+    ∙ ap (λ t. cond t (Some (Poke addr w value)) None) (and_from _ _
+    (and_from (may_be_poked addr) _ h.window (eq-eqb _ 0 h.aligned)) (lt-ltb _ _ h.fits))
 
 pub count_small : (w : Width) → byte_count w ≤ 4
 count_small B1 = omega arith
@@ -99,7 +108,8 @@ hex_bound count word n e =
     let parts = and_parts _ _ told.0 in
     subst (λ m. m < 16 ^ count) told.1 (subst (λ k. digits_value 16 word < 16 ^ k) (eqb-true _ _ parts.0) (hex_small word parts.1))
 
-poke_ok : (words : List (List ℕ)) (action : Action) → poke_in words ≡ Ok action → IsAction action × (codes "poke" ∷ words ≡ action_fields action)
+poke_ok : (words : List (List ℕ)) (action : Action) → poke_in words ≡ Ok action
+    → IsAction action × (codes "poke" ∷ words ≡ action_fields action)
 unfolding poke_in
 poke_ok [] action e = absurd (cc)
 poke_ok (a ∷ []) action e = absurd (let f = (field_ok (hex_in 8 a) _ action e).2 in cc)
@@ -115,10 +125,12 @@ poke_ok (a ∷ w ∷ v ∷ rest) action e =
     let ev : v ≡ hex8 h.0 = hex_only 8 v h.0 h.1 in
     subst (λ (x : Action). IsAction x × (codes "poke" ∷ a ∷ w ∷ v ∷ rest ≡ action_fields x)) (sym p.3) (p.2, four ea ew ev done.0)
   where
-    four : {a b w x v y : List ℕ} {rest : List (List ℕ)} → a ≡ b → w ≡ x → v ≡ y → rest ≡ [] → codes "poke" ∷ a ∷ w ∷ v ∷ rest ≡ codes "poke" ∷ b ∷ x ∷ y ∷ []
+    four : {a b w x v y : List ℕ} {rest : List (List ℕ)} → a ≡ b → w ≡ x → v ≡ y → rest ≡ []
+        → codes "poke" ∷ a ∷ w ∷ v ∷ rest ≡ codes "poke" ∷ b ∷ x ∷ y ∷ []
     four e f g h = cc
 
-pins_ok : (words : List (List ℕ)) (action : Action) → pins_in words ≡ Ok action → IsAction action × (codes "pins" ∷ words ≡ action_fields action)
+pins_ok : (words : List (List ℕ)) (action : Action) → pins_in words ≡ Ok action
+    → IsAction action × (codes "pins" ∷ words ≡ action_fields action)
 unfolding pins_in
 pins_ok [] action e = absurd (cc)
 pins_ok (w ∷ []) action e = absurd (let f = (field_ok (decimal_in w) _ action e).2 in cc)
@@ -139,7 +151,8 @@ pins_ok (w ∷ v ∷ rest) action e =
 two : {word w x : List ℕ} {rest : List (List ℕ)} → w ≡ x → rest ≡ [] → word ∷ w ∷ rest ≡ word ∷ x ∷ []
 two f h = cc
 
-event_ok : (words : List (List ℕ)) (action : Action) → event_in words ≡ Ok action → IsAction action × (codes "event" ∷ words ≡ action_fields action)
+event_ok : (words : List (List ℕ)) (action : Action) → event_in words ≡ Ok action
+    → IsAction action × (codes "event" ∷ words ≡ action_fields action)
 unfolding event_in
 event_ok [] action e = absurd (cc)
 event_ok (w ∷ rest) action e =
@@ -150,7 +163,8 @@ event_ok (w ∷ rest) action e =
     let ew : w ≡ decimal g.0 = decimal_back w g.0 63 g.1 le (omega arith) in
     subst (λ (x : Action). IsAction x × (codes "event" ∷ w ∷ rest ≡ action_fields x)) p.1 (omega (arith, le), two ew done.0)
 
-start_ok : (words : List (List ℕ)) (action : Action) → start_in words ≡ Ok action → IsAction action × (codes "start" ∷ words ≡ action_fields action)
+start_ok : (words : List (List ℕ)) (action : Action) → start_in words ≡ Ok action
+    → IsAction action × (codes "start" ∷ words ≡ action_fields action)
 unfolding start_in
 start_ok [] action e = absurd (cc)
 start_ok (w ∷ rest) action e =
@@ -162,7 +176,8 @@ start_ok (w ∷ rest) action e =
     subst (λ (x : Action). IsAction x × (codes "start" ∷ w ∷ rest ≡ action_fields x)) p.1 (omega (arith, le), two ew done.0)
 
 -- where the word is the one tested for, the first reader was taken, and the others where it isn't
-tested : {Goal : Type 0} (word text : List ℕ) (r s : Result Action ScriptCause) (action : Action) → cond (bytes_eq word text) r s ≡ Ok action
+tested : {Goal : Type 0} (word text : List ℕ) (r s : Result Action ScriptCause) (action : Action)
+    → cond (bytes_eq word text) r s ≡ Ok action
     → (word ≡ text → r ≡ Ok action → Goal) → (s ≡ Ok action → Goal) → Goal
 tested {Goal} word text r s action e here else_ = by (bytes_eq word text) refl e
   where
@@ -170,17 +185,20 @@ tested {Goal} word text r s action e here else_ = by (bytes_eq word text) refl e
     by true is e = here ((bytes_eq-Decides word text).0 is) e
     by false is e = else_ e
 
-headed : (word text : List ℕ) (words : List (List ℕ)) (action : Action) → word ≡ text → IsAction action × (text ∷ words ≡ action_fields action) → IsAction action × (word ∷ words ≡ action_fields action)
+headed : (word text : List ℕ) (words : List (List ℕ)) (action : Action) → word ≡ text
+    → IsAction action × (text ∷ words ≡ action_fields action) → IsAction action × (word ∷ words ≡ action_fields action)
 headed word text words action e h = (h.0, ap (λ w. w ∷ words) e ∙ h.1)
 
-pub action_back : (fields : List (List ℕ)) (action : Action) → action_in fields ≡ Ok action → IsAction action × (fields ≡ action_fields action)
+pub action_back : (fields : List (List ℕ)) (action : Action) → action_in fields ≡ Ok action
+    → IsAction action × (fields ≡ action_fields action)
 unfolding action_in
 action_back [] action e = absurd (cc)
 action_back (word ∷ words) action e =
     tested word (codes "poke") _ _ action e (λ is r. headed word (codes "poke") words action is (poke_ok words action r)) (λ e.
     tested word (codes "pins") _ _ action e (λ is r. headed word (codes "pins") words action is (pins_ok words action r)) (λ e.
     tested word (codes "event") _ _ action e (λ is r. headed word (codes "event") words action is (event_ok words action r)) (λ e.
-    tested word (codes "start") _ _ action e (λ is r. headed word (codes "start") words action is (start_ok words action r)) (λ e. absurd (cc)))))
+    tested word (codes "start") _ _ action e (λ is r. headed word (codes "start") words action is (start_ok words action r))
+    (λ e. absurd (cc)))))
 
 pub action_there : (action : Action) → IsAction action → action_in (action_fields action) ≡ Ok action
 unfolding action_in poke_in pins_in event_in start_in
@@ -217,5 +235,6 @@ pub act_there : (act : Act) → IsAct act → act_in (act_fields act) ≡ Ok act
 unfolding act_in
 act_there act h =
     some_field (decimal_in (decimal act.cycle)) act.cycle _ (decimal_reads act.cycle (omega (arith, h.cycle)))
-    ∙ ap (λ r. r >>= λ action. cond (nat_le act.cycle 1999999) (Ok (record { cycle = act.cycle; action = action })) (Err Range)) (action_there act.action h.action)
+    ∙ ap (λ r. r >>= λ action. cond (nat_le act.cycle 1999999) (Ok (record { cycle = act.cycle; action = action })) (Err Range))
+    (action_there act.action h.action)
     ∙ ap (λ t. cond t (Ok act) (Err Range)) (le-leb act.cycle 1999999 (omega (arith, h.cycle)))

@@ -1,5 +1,6 @@
 -- What is read is of the form, or not, as the forms say.
-use Rattle.std.proofs.Common.{◌≡◌, ℕ, Bool, true, false, cond, ◌&&◌, ◌||◌, nat_le, List, [], ◌∷◌, length, Option, Some, None, is_some, Result, Ok, Err, refl, sym, ap, ◌∙◌, arith, codes}
+use Rattle.std.proofs.Common.{◌≡◌, ℕ, Bool, true, false, cond, ◌&&◌, ◌||◌, nat_le, List, [], ◌∷◌, length, Option, Some}
+use Rattle.std.proofs.Common.{None, is_some, Result, Ok, Err, refl, sym, ap, ◌∙◌, arith, codes}
 use Rattle.std.specs.Option.{ok_or}
 use Rattle.std.specs.List.{list_all}
 use Rattle.std.specs.Str.{bytes_eq}
@@ -10,7 +11,8 @@ use Rattle.hostscript.specs.declared.cause.ScriptCause.{ScriptCause}
 use Rattle.hostscript.specs.declared.cause.ScriptCause.TheVariants.{Form, Range, Order}
 use Rattle.hostscript.specs.declared.line.Saying.TheVariants.{Does, Waits}
 use Rattle.hostscript.specs.Forms.{number, digits, are_operands, has_operands, has_act_form, has_arb_form}
-use Rattle.hostscript.specs.Reading.{◌>>=◌, at_end, poke_of, poke_in, pins_in, event_in, start_in, action_in, act_in, arb_in, small_numbers, fields_said}
+use Rattle.hostscript.specs.Reading.{◌>>=◌, at_end, poke_of, poke_in, pins_in, event_in, start_in}
+use Rattle.hostscript.specs.Reading.{action_in, act_in, arb_in, small_numbers, fields_said}
 
 -- every cause but Form
 abbrev pub formed : {A : Type 0} → Result A ScriptCause → Bool
@@ -19,11 +21,13 @@ formed (Err Form) = false
 formed (Err Range) = true
 formed (Err Order) = true
 
-formed_field : {A B : Type 0} (o : Option A) (f : A → Result B ScriptCause) (b : Bool) → ((x : A) → formed (f x) ≡ b) → formed (ok_or o Form >>= f) ≡ (is_some o && b)
+formed_field : {A B : Type 0} (o : Option A) (f : A → Result B ScriptCause) (b : Bool) → ((x : A) → formed (f x) ≡ b)
+    → formed (ok_or o Form >>= f) ≡ (is_some o && b)
 formed_field None f b h = refl
 formed_field (Some x) f b h = h x
 
-formed_none : {A B : Type 0} (o : Option A) (f : A → Result B ScriptCause) → ((x : A) → formed (f x) ≡ false) → formed (ok_or o Form >>= f) ≡ false
+formed_none : {A B : Type 0} (o : Option A) (f : A → Result B ScriptCause) → ((x : A) → formed (f x) ≡ false)
+    → formed (ok_or o Form >>= f) ≡ false
 formed_none None f h = refl
 formed_none (Some x) f h = h x
 
@@ -35,11 +39,13 @@ formed_choice : {A : Type 0} (t : Bool) (x : A) → formed (cond t (Ok x) (Err R
 formed_choice true x = refl
 formed_choice false x = refl
 
-formed_cond : {A : Type 0} (t : Bool) (r s : Result A ScriptCause) (p q : Bool) → formed r ≡ p → formed s ≡ q → formed (cond t r s) ≡ cond t p q
+formed_cond : {A : Type 0} (t : Bool) (r s : Result A ScriptCause) (p q : Bool) → formed r ≡ p → formed s ≡ q
+    → formed (cond t r s) ≡ cond t p q
 formed_cond true r s p q e f = e
 formed_cond false r s p q e f = f
 
-formed_after : {A B : Type 0} (r : Result A ScriptCause) (f : A → Result B ScriptCause) → ((x : A) → formed (f x) ≡ true) → formed (r >>= f) ≡ formed r
+formed_after : {A B : Type 0} (r : Result A ScriptCause) (f : A → Result B ScriptCause) → ((x : A) → formed (f x) ≡ true)
+    → formed (r >>= f) ≡ formed r
 formed_after (Ok x) f h = h x
 formed_after (Err Form) f h = refl
 formed_after (Err Range) f h = refl
@@ -55,7 +61,8 @@ decimal_formed word = some_cond (is_decimal word) _
 and_same : (a b c : Bool) → a ≡ b → (a && c) ≡ (b && c)
 and_same a b c e = ap (λ t. t && c) e
 
-formed_end : {A : Type 0} (rest : List (List ℕ)) (r : Result A ScriptCause) → formed r ≡ true → formed (at_end rest r) ≡ are_operands [] rest
+formed_end : {A : Type 0} (rest : List (List ℕ)) (r : Result A ScriptCause) → formed r ≡ true
+    → formed (at_end rest r) ≡ are_operands [] rest
 formed_end [] r e = e
 formed_end (word ∷ rest) r e = ap (λ t. formed (cond t r (Err Form))) (ne_eqb (length (word ∷ rest)) 0 (λ z. omega arith))
 
@@ -63,7 +70,8 @@ formed_poke : (fields : List (List ℕ)) → formed (poke_in fields) ≡ are_ope
 unfolding poke_in
 formed_poke [] = refl
 formed_poke (a ∷ []) = formed_field (hex_in 8 a) _ false (λ x. refl)
-formed_poke (a ∷ w ∷ []) = formed_field (hex_in 8 a) _ (is_decimal w && false) (λ x. formed_field (decimal_in w) _ false (λ y. refl) ∙ and_same _ _ false (decimal_formed w))
+formed_poke (a ∷ w ∷ []) = formed_field (hex_in 8 a) _ (is_decimal w && false)
+    (λ x. formed_field (decimal_in w) _ false (λ y. refl) ∙ and_same _ _ false (decimal_formed w))
 formed_poke (a ∷ w ∷ v ∷ rest) =
     formed_field (hex_in 8 a) _ (is_decimal w && (is_some (hex_in 8 v) && are_operands [] rest)) (λ x.
     formed_field (decimal_in w) _ (is_some (hex_in 8 v) && are_operands [] rest) (λ y.
@@ -82,12 +90,14 @@ formed_pins (w ∷ v ∷ rest) =
 formed_event : (fields : List (List ℕ)) → formed (event_in fields) ≡ are_operands (number ∷ []) fields
 unfolding event_in
 formed_event [] = refl
-formed_event (w ∷ rest) = formed_field (decimal_in w) _ (are_operands [] rest) (λ y. formed_end rest _ (formed_choice (nat_le y 63) _)) ∙ and_same _ _ _ (decimal_formed w)
+formed_event (w ∷ rest) = formed_field (decimal_in w) _ (are_operands [] rest)
+    (λ y. formed_end rest _ (formed_choice (nat_le y 63) _)) ∙ and_same _ _ _ (decimal_formed w)
 
 formed_start : (fields : List (List ℕ)) → formed (start_in fields) ≡ are_operands (number ∷ []) fields
 unfolding start_in
 formed_start [] = refl
-formed_start (w ∷ rest) = formed_field (decimal_in w) _ (are_operands [] rest) (λ y. formed_end rest _ (formed_choice (nat_le y 1) _)) ∙ and_same _ _ _ (decimal_formed w)
+formed_start (w ∷ rest) = formed_field (decimal_in w) _ (are_operands [] rest)
+    (λ y. formed_end rest _ (formed_choice (nat_le y 1) _)) ∙ and_same _ _ _ (decimal_formed w)
 
 formed_action : (word : List ℕ) (words : List (List ℕ)) → formed (action_in (word ∷ words)) ≡ has_operands word words
 unfolding action_in
@@ -118,8 +128,10 @@ formed_arb (core ∷ []) = formed_none (decimal_in core) _ (λ x. refl)
 formed_arb (core ∷ first ∷ others) =
     let some = ne_eqb (length (first ∷ others)) 0 (λ z. omega arith) in
     formed_field (decimal_in core) _ (list_all is_decimal (first ∷ others)) (λ x.
-    ap (λ t. formed {A = ℕ × List ℕ} (cond t (Err Form) ((cond (list_all is_decimal (first ∷ others)) (ok_or (small_numbers (first ∷ others)) Range) (Err Form)) >>= λ ns. cond (nat_le x 1) (Ok (x, ns)) (Err Range)))) some
-    ∙ formed_after (cond (list_all is_decimal (first ∷ others)) (ok_or (small_numbers (first ∷ others)) Range) (Err Form)) _ (λ ns. formed_choice (nat_le x 1) _)
+    ap (λ t. formed {A = ℕ × List ℕ} (cond t (Err Form) ((cond (list_all is_decimal (first ∷ others))
+    (ok_or (small_numbers (first ∷ others)) Range) (Err Form)) >>= λ ns. cond (nat_le x 1) (Ok (x, ns)) (Err Range)))) some
+    ∙ formed_after (cond (list_all is_decimal (first ∷ others)) (ok_or (small_numbers (first ∷ others)) Range) (Err Form)) _
+    (λ ns. formed_choice (nat_le x 1) _)
     ∙ formed_cond (list_all is_decimal (first ∷ others)) _ _ true false (formed_range (small_numbers (first ∷ others))) refl
     ∙ self (list_all is_decimal (first ∷ others)))
     ∙ and_same _ _ _ (decimal_formed core)

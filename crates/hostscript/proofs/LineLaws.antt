@@ -1,5 +1,7 @@
 -- A line is read as it is printed, and what is read is printed so.
-use Rattle.std.proofs.Common.{◌≡◌, ℕ, ◌^◌, ◌<◌, ◌≤◌, Bool, true, false, cond, ◌&&◌, ◌||◌, ◌==◌, nat_le, List, [], ◌∷◌, ◌++◌, length, map, drop, Option, Some, None, Result, Ok, Err, refl, sym, ap, ◌∙◌, arith, codes, subst, option_and_then, ◌⊎◌, inl, inr}
+use Rattle.std.proofs.Common.{◌≡◌, ℕ, ◌^◌, ◌<◌, ◌≤◌, Bool, true, false, cond, ◌&&◌, ◌||◌, ◌==◌, nat_le, List, [], ◌∷◌, ◌++◌, length}
+use Rattle.std.proofs.Common.{map, drop, Option, Some, None, Result, Ok, Err, refl, sym, ap, ◌∙◌, arith, codes, subst}
+use Rattle.std.proofs.Common.{option_and_then, ◌⊎◌, inl, inr}
 use Rattle.std.specs.Option.{ok_or, option_map}
 use Rattle.std.specs.List.{list_all, AllByRecursion, slice_get}
 use Rattle.std.specs.Char.{is_ascii_digit}
@@ -26,8 +28,10 @@ use Rattle.hostscript.specs.declared.line.Saying.TheVariants.{Nothing, Does, Wai
 use Rattle.hostscript.specs.Acts.{IsAction, IsAct, IsArb, action_fields, act_fields, act_text, arb_fields}
 use Rattle.hostscript.specs.Forms.{is_skipped, has_form, has_act_form, has_arb_form}
 use Rattle.hostscript.specs.Lines.{Says, Misfits, NamesCore}
-use Rattle.hostscript.specs.Reading.{◌>>=◌, at_end, poke_of, poke_in, pins_in, event_in, start_in, action_in, act_in, small_numbers, arb_in, fields_said, said_in}
-use Rattle.hostscript.proofs.ActLaws.{bind_ok, field_ok, range_ok, choice_ok, some_field, decimal_back, act_back, act_there, poke_small, value_small, count_small}
+use Rattle.hostscript.specs.Reading.{◌>>=◌, at_end, poke_of, poke_in, pins_in, event_in, start_in, action_in}
+use Rattle.hostscript.specs.Reading.{act_in, small_numbers, arb_in, fields_said, said_in}
+use Rattle.hostscript.proofs.ActLaws.{bind_ok, field_ok, range_ok, choice_ok, some_field, decimal_back}
+use Rattle.hostscript.proofs.ActLaws.{act_back, act_there, poke_small, value_small, count_small}
 use Rattle.hostscript.proofs.NumberLaws.{is_decimal_told, small_step}
 use Rattle.hostscript.proofs.FormLaws.{formed, formed_said}
 
@@ -72,7 +76,8 @@ decimal_lacks byte n low small = lacks_low byte (decimal n) low (digit_high (dec
 
 hex_lacks : (byte count n : ℕ) → byte < 48 → n < 16 ^ count → Lacks byte (hex_digits count n)
 hex_lacks byte count n low small =
-    let told = cond_some (length (hex_digits count n) == count && list_all is_hex_digit (hex_digits count n)) _ n (hex_reads count n small) in
+    let told = cond_some (length (hex_digits count n) == count && list_all is_hex_digit (hex_digits count n)) _ n
+    (hex_reads count n small) in
     lacks_low byte (hex_digits count n) low (hex_high (hex_digits count n) (and_parts _ _ told.0).1)
 
 action_lacks : (byte : ℕ) (action : Action) → byte < 48 → IsAction action → AllByRecursion (Lacks byte) (action_fields action)
@@ -86,8 +91,13 @@ action_lacks byte (Poke addr w value) low h = (
     ),
   ),
 )
-action_lacks byte (Pins core bits) low h =
-    (lacks_low byte (codes "pins") low refl, (decimal_lacks byte core low (omega (arith, h.0)), (hex_lacks byte 4 bits low (omega (arith, h.1)), tt)))
+action_lacks byte (Pins core bits) low h = (
+  lacks_low byte (codes "pins") low refl,
+  (
+    decimal_lacks byte core low (omega (arith, h.0)),
+    (hex_lacks byte 4 bits low (omega (arith, h.1)), tt),
+  ),
+)
 action_lacks byte (Event n) low h = (lacks_low byte (codes "event") low refl, (decimal_lacks byte n low (omega (arith, h)), tt))
 action_lacks byte (Start core) low h = (lacks_low byte (codes "start") low refl, (decimal_lacks byte core low (omega (arith, h)), tt))
 
@@ -99,7 +109,10 @@ numbers_lack byte [] low h = tt
 numbers_lack byte (n ∷ ns) low h = (decimal_lacks byte n low (omega (arith, h.0)), numbers_lack byte ns low h.1)
 
 pub arb_lacks : (byte core : ℕ) (ns : List ℕ) → byte < 48 → IsArb core ns → AllByRecursion (Lacks byte) (arb_fields core ns)
-arb_lacks byte core ns low h = (lacks_low byte (codes "arb") low refl, (decimal_lacks byte core low (omega (arith, h.known)), numbers_lack byte ns low h.each))
+arb_lacks byte core ns low h = (
+  lacks_low byte (codes "arb") low refl,
+  (decimal_lacks byte core low (omega (arith, h.known)), numbers_lack byte ns low h.each),
+)
 
 -- the numbers that a list of words spells
 abbrev Spelled : List (List ℕ) → List ℕ → Type 0
@@ -111,7 +124,8 @@ one_more word words n None ns is le back e = absurd (cc)
 one_more word words n (Some ms) ns is le back e =
     let more = back ms refl in
     let told : word ≡ decimal n = decimal_back word n 255 is le (omega arith) in
-    subst (Spelled (word ∷ words)) (let s : n ∷ ms ≡ ns = cc in s) ((omega (arith, le), more.0), ap (λ w. w ∷ words) told ∙ ap (λ ws. decimal n ∷ ws) more.1)
+    subst (Spelled (word ∷ words)) (let s : n ∷ ms ≡ ns = cc in s)
+    ((omega (arith, le), more.0), ap (λ w. w ∷ words) told ∙ ap (λ ws. decimal n ∷ ws) more.1)
 
 small_or_not : (t : Bool) (o : Option (List ℕ)) (ns : List ℕ) → cond t o None ≡ Some ns → (t ≡ true) × (o ≡ Some ns)
 small_or_not true o ns e = (refl, e)
@@ -119,7 +133,8 @@ small_or_not false o ns e = absurd (cc)
 
 small_by : (word : List ℕ) (words : List (List ℕ)) (o : Option ℕ) (ns : List ℕ) → decimal_in word ≡ o
     → ((ms : List ℕ) → small_numbers words ≡ Some ms → Spelled words ms)
-    → option_and_then (λ n. cond (nat_le n 255) (option_map (λ ns. n ∷ ns) (small_numbers words)) None) o ≡ Some ns → Spelled (word ∷ words) ns
+    → option_and_then (λ n. cond (nat_le n 255) (option_map (λ ns. n ∷ ns) (small_numbers words)) None) o ≡ Some ns
+    → Spelled (word ∷ words) ns
 small_by word words None ns is back e = absurd (cc)
 small_by word words (Some n) ns is back e =
     let s = small_or_not (nat_le n 255) _ ns e in
@@ -162,8 +177,11 @@ arb_back (word ∷ words) x e =
     let p = choice_ok (nat_le f.0 1) (f.0, h.0) x h.2 in
     let le = leb-true f.0 1 p.0 in
     let told : word ≡ decimal f.0 = decimal_back word f.0 1 f.1 le (omega arith) in
-    subst (λ (x : ℕ × List ℕ). IsArb x.0 x.1 × (word ∷ words ≡ decimal x.0 ∷ map decimal x.1)) p.1
-    (record { known = omega (arith, le); some = filled h.0 s.1 g.0; each = s.0 }, ap (λ w. w ∷ words) told ∙ ap (λ ws. decimal f.0 ∷ ws) s.1)
+    subst (λ (x : ℕ × List ℕ). IsArb x.0 x.1 × (word ∷ words ≡ decimal x.0 ∷ map decimal x.1)) p.1 (
+      record { known = omega (arith, le); some = filled h.0 s.1 g.0; each = s.0 },
+      ap (λ w. w ∷ words) told
+          ∙ ap (λ ws. decimal f.0 ∷ ws) s.1,
+    )
   where
     filled : (ns : List ℕ) → words ≡ map decimal ns → (length words == 0) ≡ false → 0 < length ns
     filled [] e h = absurd (let z = sym (ap (λ (ws : List (List ℕ)). length ws == 0) e) ∙ h in cc)
@@ -176,24 +194,35 @@ arb_there core (n ∷ ns) h =
     let rest = map decimal (n ∷ ns) in
     let last : List ℕ → Result (ℕ × List ℕ) ScriptCause = λ ms. cond (nat_le core 1) (Ok (core, ms)) (Err Range) in
     some_field (decimal_in (decimal core)) core _ (decimal_reads core (omega (arith, h.known)))
-    ∙ ap (λ t. cond t (Err Form) ((cond (list_all is_decimal rest) (ok_or (small_numbers rest) Range) (Err Form)) >>= last)) (ne_eqb (length rest) 0 (λ z. omega arith))
+    ∙ ap (λ t. cond t (Err Form) ((cond (list_all is_decimal rest) (ok_or (small_numbers rest) Range) (Err Form)) >>= last))
+    (ne_eqb (length rest) 0 (λ z. omega arith))
     ∙ ap (λ t. (cond t (ok_or (small_numbers rest) Range) (Err Form)) >>= last) (decimals (n ∷ ns) h.each)
     ∙ ap (λ o. (ok_or o Range) >>= last) (small_there (n ∷ ns) h.each)
     ∙ ap (λ t. cond t (Ok (core, n ∷ ns)) (Err Range)) (le-leb core 1 (omega (arith, h.known)))
 
 -- what the fields say
 fields_back : (fields : List (List ℕ)) (said : Saying) → fields_said fields ≡ Ok said
-    → ((act : Act) × (said ≡ Does act) × IsAct act × (fields ≡ act_fields act)) ⊎ ((core : ℕ) × (ns : List ℕ) × (said ≡ Waits core ns) × IsArb core ns × (fields ≡ arb_fields core ns))
+    → ((act : Act) × (said ≡ Does act) × IsAct act × (fields ≡ act_fields act))
+    ⊎ ((core : ℕ) × (ns : List ℕ) × (said ≡ Waits core ns) × IsArb core ns × (fields ≡ arb_fields core ns))
 unfolding fields_said
 fields_back [] said e = absurd (cc)
 fields_back (word ∷ words) said e = by (bytes_eq word (codes "arb")) refl e
   where
-    by : (t : Bool) → bytes_eq word (codes "arb") ≡ t → cond t (arb_in words >>= λ x. Ok (Waits x.0 x.1)) (act_in (word ∷ words) >>= λ act. Ok (Does act)) ≡ Ok said
-        → ((act : Act) × (said ≡ Does act) × IsAct act × (word ∷ words ≡ act_fields act)) ⊎ ((core : ℕ) × (ns : List ℕ) × (said ≡ Waits core ns) × IsArb core ns × (word ∷ words ≡ arb_fields core ns))
+    by : (t : Bool) → bytes_eq word (codes "arb") ≡ t → cond t (arb_in words >>= λ x. Ok (Waits x.0 x.1))
+        (act_in (word ∷ words) >>= λ act. Ok (Does act)) ≡ Ok said
+        → ((act : Act) × (said ≡ Does act) × IsAct act × (word ∷ words ≡ act_fields act))
+        ⊎ ((core : ℕ) × (ns : List ℕ) × (said ≡ Waits core ns) × IsArb core ns × (word ∷ words ≡ arb_fields core ns))
     by true is e =
         let b = bind_ok (arb_in words) _ said e in
         let a = arb_back words b.0 b.1 in
-        inr (b.0.0, b.0.1, (let s : Waits b.0.0 b.0.1 ≡ said = cc in sym s), a.0, ap (λ w. w ∷ words) ((bytes_eq-Decides word (codes "arb")).0 is) ∙ ap (λ ws. codes "arb" ∷ ws) a.1)
+        inr (
+          b.0.0,
+          b.0.1,
+          (let s : Waits b.0.0 b.0.1 ≡ said = cc in sym s),
+          a.0,
+          ap (λ w. w ∷ words)
+              ((bytes_eq-Decides word (codes "arb")).0 is) ∙ ap (λ ws. codes "arb" ∷ ws) a.1,
+        )
     by false is e =
         let b = bind_ok (act_in (word ∷ words)) _ said e in
         let a = act_back (word ∷ words) b.0 b.1 in
@@ -213,7 +242,8 @@ said_back line said e = by (is_skipped line) refl e
 -- a digit is no '#'
 not_skipped : (word : List ℕ) (rest : List ℕ) → high_bytes word ≡ true → 0 < length word → is_skipped (word ++ rest) ≡ false
 not_skipped [] rest h some = absurd (omega arith)
-not_skipped (c ∷ word) rest h some = let le = leb-true 48 c (and_parts (nat_le 48 c) (high_bytes word) h).0 in ne_eqb c 35 (λ e. omega (arith, le, e))
+not_skipped (c ∷ word) rest h some = let le = leb-true 48 c (and_parts (nat_le 48 c) (high_bytes word) h).0 in
+    ne_eqb c 35 (λ e. omega (arith, le, e))
 
 act_text_said : (act : Act) → IsAct act → is_skipped (act_text act) ≡ false
 act_text_said act h =
@@ -221,10 +251,16 @@ act_text_said act h =
     joined act.action
   where
     joined : (action : Action) → is_skipped (line_of (decimal act.cycle ∷ action_fields action)) ≡ false
-    joined (Poke addr w value) = not_skipped (decimal act.cycle) _ (digit_high (decimal act.cycle) (decimal_digits act.cycle (omega (arith, h.cycle))).0) (decimal_digits act.cycle (omega (arith, h.cycle))).1
-    joined (Pins core bits) = not_skipped (decimal act.cycle) _ (digit_high (decimal act.cycle) (decimal_digits act.cycle (omega (arith, h.cycle))).0) (decimal_digits act.cycle (omega (arith, h.cycle))).1
-    joined (Event n) = not_skipped (decimal act.cycle) _ (digit_high (decimal act.cycle) (decimal_digits act.cycle (omega (arith, h.cycle))).0) (decimal_digits act.cycle (omega (arith, h.cycle))).1
-    joined (Start core) = not_skipped (decimal act.cycle) _ (digit_high (decimal act.cycle) (decimal_digits act.cycle (omega (arith, h.cycle))).0) (decimal_digits act.cycle (omega (arith, h.cycle))).1
+    joined (Poke addr w value) = not_skipped (decimal act.cycle) _
+        (digit_high (decimal act.cycle) (decimal_digits act.cycle (omega (arith, h.cycle))).0)
+        (decimal_digits act.cycle (omega (arith, h.cycle))).1
+    joined (Pins core bits) = not_skipped (decimal act.cycle) _
+        (digit_high (decimal act.cycle) (decimal_digits act.cycle (omega (arith, h.cycle))).0)
+        (decimal_digits act.cycle (omega (arith, h.cycle))).1
+    joined (Event n) = not_skipped (decimal act.cycle) _ (digit_high (decimal act.cycle)
+        (decimal_digits act.cycle (omega (arith, h.cycle))).0) (decimal_digits act.cycle (omega (arith, h.cycle))).1
+    joined (Start core) = not_skipped (decimal act.cycle) _ (digit_high (decimal act.cycle)
+        (decimal_digits act.cycle (omega (arith, h.cycle))).0) (decimal_digits act.cycle (omega (arith, h.cycle))).1
 
 not_arb : (n : ℕ) → n < 2 ^ 64 → bytes_eq (decimal n) (codes "arb") ≡ false
 not_arb n small = by (bytes_eq (decimal n) (codes "arb")) refl
@@ -232,7 +268,8 @@ not_arb n small = by (bytes_eq (decimal n) (codes "arb")) refl
     by : (t : Bool) → bytes_eq (decimal n) (codes "arb") ≡ t → t ≡ false
     by false e = refl
     by true e = absurd (let w = (bytes_eq-Decides (decimal n) (codes "arb")).0 e in
-        let d = (decimal_digits n small).0 in let z : list_all is_ascii_digit (codes "arb") ≡ true = ap (list_all is_ascii_digit) (sym w) ∙ d in cc)
+        let d = (decimal_digits n small).0 in
+        let z : list_all is_ascii_digit (codes "arb") ≡ true = ap (list_all is_ascii_digit) (sym w) ∙ d in cc)
 
 pub said_there : (line : List ℕ) (said : Saying) → Says line said → said_in line ≡ Ok said
 unfolding said_in fields_said
@@ -241,7 +278,8 @@ said_there line (Does act) h =
     ap said_in h.1
     ∙ ap (λ t. cond t (Ok Nothing) (fields_said (fields_of (act_text act)))) (act_text_said act h.0)
     ∙ ap fields_said (fields_again (act_fields act) (omega arith) (act_lacks 32 act (omega arith) h.0))
-    ∙ ap (λ t. cond t (arb_in (action_fields act.action) >>= λ x. Ok (Waits x.0 x.1)) (act_in (act_fields act) >>= λ act. Ok (Does act))) (not_arb act.cycle (omega (arith, h.0.cycle)))
+    ∙ ap (λ t. cond t (arb_in (action_fields act.action) >>= λ x. Ok (Waits x.0 x.1))
+    (act_in (act_fields act) >>= λ act. Ok (Does act))) (not_arb act.cycle (omega (arith, h.0.cycle)))
     ∙ ap (λ r. r >>= λ act. Ok (Does act)) (act_there act h.0)
 said_there line (Waits core ns) h =
     ap said_in h.1
@@ -256,7 +294,8 @@ pub form_told : (line : List ℕ) → formed (said_in line) ≡ has_form line
 unfolding said_in
 form_told line = by (is_skipped line)
   where
-    by : (t : Bool) → formed (cond t (Ok Nothing) (fields_said (fields_of line))) ≡ (t || has_act_form (fields_of line) || has_arb_form (fields_of line))
+    by : (t : Bool) → formed (cond t (Ok Nothing) (fields_said (fields_of line)))
+        ≡ (t || has_act_form (fields_of line) || has_arb_form (fields_of line))
     by true = refl
     by false = formed_said (fields_of line)
 
@@ -271,11 +310,13 @@ plain (Err Form) = true
 plain (Err Range) = true
 plain (Err Order) = false
 
-plain_bind : {A B : Type 0} (r : Result A ScriptCause) (f : A → Result B ScriptCause) → plain r ≡ true → ((x : A) → plain (f x) ≡ true) → plain (r >>= f) ≡ true
+plain_bind : {A B : Type 0} (r : Result A ScriptCause) (f : A → Result B ScriptCause) → plain r ≡ true
+    → ((x : A) → plain (f x) ≡ true) → plain (r >>= f) ≡ true
 plain_bind (Ok x) f h k = k x
 plain_bind (Err cause) f h k = h
 
-plain_field : {A B : Type 0} (o : Option A) (f : A → Result B ScriptCause) → ((x : A) → plain (f x) ≡ true) → plain (ok_or o Form >>= f) ≡ true
+plain_field : {A B : Type 0} (o : Option A) (f : A → Result B ScriptCause) → ((x : A) → plain (f x) ≡ true)
+    → plain (ok_or o Form >>= f) ≡ true
 plain_field None f h = refl
 plain_field (Some x) f h = h x
 
@@ -302,12 +343,14 @@ plain_poke : (fields : List (List ℕ)) → plain (poke_in fields) ≡ true
 unfolding poke_in
 plain_poke fields =
     plain_field (told (hex_in 8) fields) _ (λ a. plain_field (told decimal_in (drop 1 fields)) _ (λ b.
-    plain_field (told (hex_in 8) (drop 1 (drop 1 fields))) _ (λ d. plain_end (drop 1 (drop 1 (drop 1 fields))) _ (plain_range (poke_of a b d)))))
+    plain_field (told (hex_in 8) (drop 1 (drop 1 fields))) _
+    (λ d. plain_end (drop 1 (drop 1 (drop 1 fields))) _ (plain_range (poke_of a b d)))))
 
 plain_pins : (fields : List (List ℕ)) → plain (pins_in fields) ≡ true
 unfolding pins_in
 plain_pins fields =
-    plain_field (told decimal_in fields) _ (λ a. plain_field (told (hex_in 4) (drop 1 fields)) _ (λ b. plain_end (drop 1 (drop 1 fields)) _ (plain_choice (nat_le a 1) _)))
+    plain_field (told decimal_in fields) _ (λ a. plain_field (told (hex_in 4) (drop 1 fields)) _
+    (λ b. plain_end (drop 1 (drop 1 fields)) _ (plain_choice (nat_le a 1) _)))
 
 plain_event : (fields : List (List ℕ)) → plain (event_in fields) ≡ true
 unfolding event_in
@@ -328,7 +371,8 @@ plain_action (word ∷ words) =
 
 plain_act : (fields : List (List ℕ)) → plain (act_in fields) ≡ true
 unfolding act_in
-plain_act fields = plain_field (told decimal_in fields) _ (λ cycle. plain_bind (action_in (drop 1 fields)) _ (plain_action (drop 1 fields)) (λ action. plain_choice (nat_le cycle 1999999) _))
+plain_act fields = plain_field (told decimal_in fields) _ (λ cycle. plain_bind (action_in (drop 1 fields)) _
+    (plain_action (drop 1 fields)) (λ action. plain_choice (nat_le cycle 1999999) _))
 
 plain_arb : (fields : List (List ℕ)) → plain (arb_in fields) ≡ true
 unfolding arb_in
@@ -336,7 +380,8 @@ plain_arb fields =
     let words = drop 1 fields in
     plain_field (told decimal_in fields) _ (λ core. plain_cond (length words == 0) (Err Form) _ refl
     (plain_bind (cond (list_all is_decimal words) (ok_or (small_numbers words) Range) (Err Form)) _
-    (plain_cond (list_all is_decimal words) (ok_or (small_numbers words) Range) (Err Form) (plain_range (small_numbers words)) refl) (λ ns. plain_choice (nat_le core 1) _)))
+    (plain_cond (list_all is_decimal words) (ok_or (small_numbers words) Range) (Err Form) (plain_range (small_numbers words)) refl)
+    (λ ns. plain_choice (nat_le core 1) _)))
 
 plain_fields : (fields : List (List ℕ)) → plain (fields_said fields) ≡ true
 unfolding fields_said

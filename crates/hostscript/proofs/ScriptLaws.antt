@@ -1,5 +1,6 @@
 -- Lines one after the other: what they say together, and the first bad one.
-use Rattle.std.proofs.Common.{◌≡◌, ◌≢◌, map, eq-eqb, ℕ, ◌+◌, ◌<◌, ◌==◌, false, cond, List, [], ◌∷◌, ◌++◌, length, get_or, Result, Ok, Err, refl, sym, ap, ◌∙◌, arith, append_assoc, length-append, subst, IfOk, IfErr}
+use Rattle.std.proofs.Common.{◌≡◌, ◌≢◌, map, eq-eqb, ℕ, ◌+◌, ◌<◌, ◌==◌, false, cond, List, [], ◌∷◌, ◌++◌, length, get_or, Result}
+use Rattle.std.proofs.Common.{Ok, Err, refl, sym, ap, ◌∙◌, arith, append_assoc, length-append, subst, IfOk, IfErr}
 use Rattle.std.specs.List.{AllZip, AllByRecursion}
 use Rattle.std.proofs.lemmas.List.{append-nil, get_or_append_left}
 use Rattle.textline.specs.Lines.{lines_of, text_of, line_of, Lacks}
@@ -18,11 +19,13 @@ use Rattle.hostscript.specs.declared.script.Script.{Script}
 use Rattle.hostscript.specs.Acts.{IsAct, InOrder, act_text, act_fields, arb_fields}
 use Rattle.hostscript.specs.Lines.{Says}
 use Rattle.hostscript.specs.Faults.{at_line}
-use Rattle.hostscript.specs.Scripts.{acts_in, numbers_in, AreGood, IsScript, HasCause, IsLineFault, IsFirstBad, IsFaultOf, Gives, IsWhole, arb_lines, script_text}
+use Rattle.hostscript.specs.Scripts.{acts_in, numbers_in, AreGood, IsScript, HasCause, IsLineFault, IsFirstBad}
+use Rattle.hostscript.specs.Scripts.{IsFaultOf, Gives, IsWhole, arb_lines, script_text}
 use Rattle.hostscript.specs.Drafts.{Holds, Adds}
 use Rattle.hostscript.proofs.LineLaws.{one_saying, has_form_of, act_lacks, arb_lacks}
 
-zip_push : {A B : Type 0} (R : A → B → Type 0) (xs : List A) (ys : List B) (x : A) (y : B) → AllZip R xs ys → R x y → AllZip R (xs ++ x ∷ []) (ys ++ y ∷ [])
+zip_push : {A B : Type 0} (R : A → B → Type 0) (xs : List A) (ys : List B) (x : A) (y : B) → AllZip R xs ys → R x y
+    → AllZip R (xs ++ x ∷ []) (ys ++ y ∷ [])
 zip_push R [] [] x y all one = (one, tt)
 zip_push R [] (b ∷ ys) x y all one = absurd all
 zip_push R (a ∷ xs) [] x y all one = absurd all
@@ -38,7 +41,8 @@ numbers-append : (k : ℕ) (a b : List Saying) → numbers_in k (a ++ b) ≡ num
 numbers-append k [] b = refl
 numbers-append k (Nothing ∷ a) b = numbers-append k a b
 numbers-append k (Does act ∷ a) b = numbers-append k a b
-numbers-append k (Waits core ns ∷ a) b = ap (λ xs. cond (core == k) ns [] ++ xs) (numbers-append k a b) ∙ sym (append_assoc (cond (core == k) ns []) (numbers_in k a) (numbers_in k b))
+numbers-append k (Waits core ns ∷ a) b = ap (λ xs. cond (core == k) ns [] ++ xs) (numbers-append k a b)
+    ∙ sym (append_assoc (cond (core == k) ns []) (numbers_in k a) (numbers_in k b))
 
 -- no lines say an empty script
 pub nothing_said : AreGood [] []
@@ -52,15 +56,18 @@ more_holds said one old new h a = record {
   arb1 = a.arb1 ∙ ap (λ xs. xs ++ numbers_in 1 (one ∷ [])) h.arb1 ∙ sym (numbers-append 1 said (one ∷ []));
 }
 
-pub more_good : (before : List (List ℕ)) (line : List ℕ) (said : List Saying) (one : Saying) (old new : Draft) → AreGood before said → Holds old said → Says line one → Adds one old new
+pub more_good : (before : List (List ℕ)) (line : List ℕ) (said : List Saying) (one : Saying) (old new : Draft) → AreGood before said
+    → Holds old said → Says line one → Adds one old new
     → (InOrder old.acts.items → InOrder new.acts.items) → AreGood (before ++ line ∷ []) (said ++ one ∷ [])
 more_good before line said one old new good h says a rises = record {
   each = zip_push Says before said line one good.each says;
   order = subst InOrder (more_holds said one old new h a).acts (rises (subst InOrder (sym h.acts) good.order));
 }
 
-pub first_bad : (text : List ℕ) (before : List (List ℕ)) (line : List ℕ) (after : List (List ℕ)) (number : ℕ) (said : List Saying) (old : Draft) (fault : LineFault)
-    → lines_of text ≡ before ++ line ∷ after → number ≡ length before + 1 → AreGood before said → Holds old said → IsLineFault old.acts.items line fault
+pub first_bad : (text : List ℕ) (before : List (List ℕ)) (line : List ℕ) (after : List (List ℕ)) (number : ℕ) (said : List Saying)
+    (old : Draft) (fault : LineFault)
+    → lines_of text ≡ before ++ line ∷ after → number ≡ length before + 1 → AreGood before said → Holds old said
+    → IsLineFault old.acts.items line fault
     → IsFaultOf text (at_line number fault)
 first_bad text before line after number said old (faults.Cause cause) lines place good h bad = record {
   before = before;
@@ -111,7 +118,8 @@ record Cut (before : List (List ℕ)) (line : List ℕ) (said : List Saying) : T
   each : AllZip Says before front
   says : Says line here
 
-cut : (before : List (List ℕ)) (line : List ℕ) (after : List (List ℕ)) (said : List Saying) → AllZip Says (before ++ line ∷ after) said → Cut before line said
+cut : (before : List (List ℕ)) (line : List ℕ) (after : List (List ℕ)) (said : List Saying)
+    → AllZip Says (before ++ line ∷ after) said → Cut before line said
 cut [] line after [] h = absurd h
 cut [] line after (here ∷ rest) h = record { front = []; here = here; rest = rest; whole = refl; each = tt; says = h.0 }
 cut (b ∷ before) line after [] h = absurd h
@@ -128,13 +136,15 @@ front_in_order a b h = λ i j d le lt.
     let y : (get_or (a ++ b) j d).cycle ≡ (get_or a j d).cycle = ap (λ (x : Act). x.cycle) high in
     omega (arith, all, x, y)
 
-falls_not : (before : List (List ℕ)) (line : List ℕ) (said other : List Saying) (act : Act) (c : Cut before line said) → InOrder (acts_in said) → AllZip Says before other → Says line (Does act)
+falls_not : (before : List (List ℕ)) (line : List ℕ) (said other : List Saying) (act : Act) (c : Cut before line said)
+    → InOrder (acts_in said) → AllZip Says before other → Says line (Does act)
     → InOrder (acts_in other ++ act ∷ [])
 falls_not before line said other act c order each says =
     let same : c.front ≡ other = one_reading before c.front other c.each each in
     let here : c.here ≡ Does act = one_saying line c.here (Does act) c.says says in
     let whole : acts_in said ≡ (acts_in other ++ act ∷ []) ++ acts_in c.rest =
-    ap acts_in c.whole ∙ acts-append c.front (c.here ∷ c.rest) ∙ ap (λ xs. acts_in xs ++ acts_in (c.here ∷ c.rest)) same ∙ ap (λ x. acts_in other ++ acts_in (x ∷ c.rest)) here
+    ap acts_in c.whole ∙ acts-append c.front (c.here ∷ c.rest) ∙ ap (λ xs. acts_in xs ++ acts_in (c.here ∷ c.rest)) same
+    ∙ ap (λ x. acts_in other ++ acts_in (x ∷ c.rest)) here
     ∙ sym (append_assoc (acts_in other) (act ∷ []) (acts_in c.rest)) in
     front_in_order (acts_in other ++ act ∷ []) (acts_in c.rest) (subst InOrder whole order)
 
@@ -149,12 +159,14 @@ no_bad text script number cause h bad =
     by Range c x = x.1 c.here c.says
     by Order c x = x.2 (falls_not bad.before bad.line h.said bad.said x.0 c h.good.order bad.good.each x.1)
 
-pub gives : (text : List ℕ) (result : Result Script ScriptFault) → IfOk result (IsScript text) → IfErr result (IsFaultOf text) → (script : Script) → IsScript text script → Gives script result
+pub gives : (text : List ℕ) (result : Result Script ScriptFault) → IfOk result (IsScript text) → IfErr result (IsFaultOf text)
+    → (script : Script) → IsScript text script → Gives script result
 gives text (Ok read) found fault script h = one_script text read script found h
 gives text (Err (script_faults.Line line cause)) found fault script h = no_bad text script line cause h fault
 gives text (Err script_faults.Memory) found fault script h = tt
 
-zip_append : {A B : Type 0} (R : A → B → Type 0) (xs us : List A) (ys vs : List B) → AllZip R xs ys → AllZip R us vs → AllZip R (xs ++ us) (ys ++ vs)
+zip_append : {A B : Type 0} (R : A → B → Type 0) (xs us : List A) (ys vs : List B) → AllZip R xs ys → AllZip R us vs
+    → AllZip R (xs ++ us) (ys ++ vs)
 zip_append R [] us [] vs h k = k
 zip_append R [] us (y ∷ ys) vs h k = absurd h
 zip_append R (x ∷ xs) us [] vs h k = absurd h
@@ -167,7 +179,8 @@ all_append P (x ∷ xs) ys h k = (h.0, all_append P xs ys h.1 k)
 line_lacks : (fields : List (List ℕ)) → AllByRecursion (Lacks 10) fields → Lacks 10 (line_of fields)
 line_lacks [] h = tt
 line_lacks (field ∷ []) h = h.0
-line_lacks (field ∷ next ∷ fields) h = all_append (λ b. b ≢ 10) field (32 ∷ line_of (next ∷ fields)) h.0 (λ e. omega (arith, e), line_lacks (next ∷ fields) h.1)
+line_lacks (field ∷ next ∷ fields) h = all_append (λ b. b ≢ 10) field (32 ∷ line_of (next ∷ fields)) h.0
+    (λ e. omega (arith, e), line_lacks (next ∷ fields) h.1)
 
 -- the acts' lines
 acts_say : (acts : List Act) → AllByRecursion IsAct acts → AllZip Says (map act_text acts) (map (λ act. Does act) acts)
@@ -197,7 +210,11 @@ waits_say core (n ∷ ns) known h = ((record { known = known; some = omega arith
 
 waits_lack : (core : ℕ) (ns : List ℕ) → core < 2 → AllByRecursion (λ n. n < 256) ns → AllByRecursion (Lacks 10) (arb_lines core ns)
 waits_lack core [] known h = tt
-waits_lack core (n ∷ ns) known h = (line_lacks (arb_fields core (n ∷ ns)) (arb_lacks 10 core (n ∷ ns) (omega arith) (record { known = known; some = omega arith; each = h })), tt)
+waits_lack core (n ∷ ns) known h = (
+  line_lacks (arb_fields core (n ∷ ns))
+      (arb_lacks 10 core (n ∷ ns) (omega arith) (record { known = known; some = omega arith; each = h })),
+  tt,
+)
 
 no_acts : (core : ℕ) (ns : List ℕ) → acts_in (waiting core ns) ≡ []
 no_acts core [] = refl
@@ -219,13 +236,19 @@ printed_is script h =
     let zero = waiting 0 script.arb0 in
     let one = waiting 1 script.arb1 in
     let said = acts ++ zero ++ one in
-    let each : AllZip Says lines said = zip_append Says (map act_text script.acts ++ arb_lines 0 script.arb0) (arb_lines 1 script.arb1) (acts ++ zero) one
-    (zip_append Says (map act_text script.acts) (arb_lines 0 script.arb0) acts zero (acts_say script.acts h.acts) (waits_say 0 script.arb0 (omega arith) h.arb0)) (waits_say 1 script.arb1 (omega arith) h.arb1) in
-    let lack : AllByRecursion (Lacks 10) lines = all_append (Lacks 10) (map act_text script.acts ++ arb_lines 0 script.arb0) (arb_lines 1 script.arb1)
-    (all_append (Lacks 10) (map act_text script.acts) (arb_lines 0 script.arb0) (acts_lack script.acts h.acts) (waits_lack 0 script.arb0 (omega arith) h.arb0)) (waits_lack 1 script.arb1 (omega arith) h.arb1) in
-    let read : lines_of (text_of lines) ≡ lines = ap lines_of (sym (append-nil (text_of lines))) ∙ lines_again lines [] lack ∙ append-nil lines in
+    let each : AllZip Says lines said = zip_append Says (map act_text script.acts ++ arb_lines 0 script.arb0)
+    (arb_lines 1 script.arb1) (acts ++ zero) one
+    (zip_append Says (map act_text script.acts) (arb_lines 0 script.arb0) acts zero (acts_say script.acts h.acts)
+    (waits_say 0 script.arb0 (omega arith) h.arb0)) (waits_say 1 script.arb1 (omega arith) h.arb1) in
+    let lack : AllByRecursion (Lacks 10) lines = all_append (Lacks 10) (map act_text script.acts ++ arb_lines 0 script.arb0)
+    (arb_lines 1 script.arb1)
+    (all_append (Lacks 10) (map act_text script.acts) (arb_lines 0 script.arb0) (acts_lack script.acts h.acts)
+    (waits_lack 0 script.arb0 (omega arith) h.arb0)) (waits_lack 1 script.arb1 (omega arith) h.arb1) in
+    let read : lines_of (text_of lines) ≡ lines = ap lines_of (sym (append-nil (text_of lines))) ∙ lines_again lines [] lack
+    ∙ append-nil lines in
     let told : acts_in said ≡ script.acts =
-    acts-append (acts ++ zero) one ∙ ap (λ xs. xs ++ acts_in one) (acts-append acts zero) ∙ ap (λ xs. (xs ++ acts_in zero) ++ acts_in one) (acts_said script.acts)
+    acts-append (acts ++ zero) one ∙ ap (λ xs. xs ++ acts_in one) (acts-append acts zero)
+    ∙ ap (λ xs. (xs ++ acts_in zero) ++ acts_in one) (acts_said script.acts)
     ∙ ap (λ xs. (script.acts ++ xs) ++ acts_in one) (no_acts 0 script.arb0) ∙ ap (λ xs. (script.acts ++ []) ++ xs) (no_acts 1 script.arb1)
     ∙ append-nil (script.acts ++ []) ∙ append-nil script.acts in
     let parts : (k : ℕ) → numbers_in k said ≡ (numbers_in k acts ++ numbers_in k zero) ++ numbers_in k one =
@@ -234,8 +257,10 @@ printed_is script h =
       said = said;
       good = record { each = subst (λ ls. AllZip Says ls said) (sym read) each; order = subst InOrder (sym told) h.order };
       acts = sym told;
-      arb0 = sym (parts 0 ∙ ap (λ xs. (xs ++ numbers_in 0 zero) ++ numbers_in 0 one) (no_numbers 0 script.acts) ∙ ap (λ xs. xs ++ numbers_in 0 one) (own_numbers 0 script.arb0)
+      arb0 = sym (parts 0 ∙ ap (λ xs. (xs ++ numbers_in 0 zero) ++ numbers_in 0 one) (no_numbers 0 script.acts)
+          ∙ ap (λ xs. xs ++ numbers_in 0 one) (own_numbers 0 script.arb0)
           ∙ ap (λ xs. script.arb0 ++ xs) (other_numbers 0 1 script.arb1 refl) ∙ append-nil script.arb0);
-      arb1 = sym (parts 1 ∙ ap (λ xs. (xs ++ numbers_in 1 zero) ++ numbers_in 1 one) (no_numbers 1 script.acts) ∙ ap (λ xs. xs ++ numbers_in 1 one) (other_numbers 1 0 script.arb0 refl)
+      arb1 = sym (parts 1 ∙ ap (λ xs. (xs ++ numbers_in 1 zero) ++ numbers_in 1 one) (no_numbers 1 script.acts)
+          ∙ ap (λ xs. xs ++ numbers_in 1 one) (other_numbers 1 0 script.arb0 refl)
           ∙ own_numbers 1 script.arb1);
     }

@@ -1,5 +1,6 @@
 -- What the reader gives of the fields of an act's line.
-use Rattle.std.specs.Prelude.{◌≡◌, Bool, false, option_map, ℕ, ◌%◌, ◌^◌, ◌==◌, ◌&&◌, nat_le, nat_lt, if◌then◌else◌, List, [], ◌∷◌, length, drop, slice_get, codes, Option, Some, None, option_and_then, Result, Ok, Err}
+use Rattle.std.specs.Prelude.{◌≡◌, Bool, false, option_map, ℕ, ◌%◌, ◌^◌, ◌==◌, ◌&&◌, nat_le, nat_lt, if◌then◌else◌, List, [], ◌∷◌}
+use Rattle.std.specs.Prelude.{length, drop, slice_get, codes, Option, Some, None, option_and_then, Result, Ok, Err}
 use Rattle.std.specs.Option.{ok_or}
 use Rattle.std.specs.List.{list_all}
 use Rattle.std.specs.Str.{bytes_eq}
@@ -38,7 +39,8 @@ width_of n = if n == 1 then Some B1 else (if n == 2 then Some B2 else (if n == 4
 
 abbrev pub poke_of : ℕ → ℕ → ℕ → Option Action
 poke_of addr n value = option_and_then
-    (λ width. if may_be_poked addr && addr % byte_count width == 0 && nat_lt value (256 ^ byte_count width) then Some (Poke addr width value) else None)
+    (λ width. if may_be_poked addr && addr % byte_count width == 0 && nat_lt value (256 ^ byte_count width) then Some
+    (Poke addr width value) else None)
     (width_of n)
 
 unfoldable pub poke_in : List (List ℕ) → Result Action ScriptCause
@@ -81,14 +83,16 @@ act_in fields = do
 -- numbers of one byte
 unfoldable pub small_numbers : List (List ℕ) → Option (List ℕ)
 small_numbers [] = Some []
-small_numbers (word ∷ words) = option_and_then (λ n. if nat_le n 255 then option_map (λ ns. n ∷ ns) (small_numbers words) else None) (decimal_in word)
+small_numbers (word ∷ words) = option_and_then (λ n. if nat_le n 255 then option_map (λ ns. n ∷ ns) (small_numbers words) else None)
+    (decimal_in word)
 
 -- behind the word arb
 unfoldable pub arb_in : List (List ℕ) → Result (ℕ × List ℕ) ScriptCause
 arb_in fields = do
   core ← field decimal_in fields
   if length (drop 1 fields) == 0 then Err Form
-      else (if list_all is_decimal (drop 1 fields) then ok_or (small_numbers (drop 1 fields)) Range else Err Form) >>= λ numbers. (if nat_le core 1 then Ok (core, numbers) else Err Range)
+      else (if list_all is_decimal (drop 1 fields) then ok_or (small_numbers (drop 1 fields)) Range else Err Form) >>= λ numbers.
+      (if nat_le core 1 then Ok (core, numbers) else Err Range)
 
 unfoldable pub fields_said : List (List ℕ) → Result Saying ScriptCause
 fields_said [] = Err Form

@@ -77,7 +77,8 @@ fn read_arb(alloc: Global, fields: &mut Fields<'_>) -> Result<(u8, Vec<u8>), Lin
 /// The numbers, where each is at most 255.
 #[tactic(auto, unfolding(crate::specs::Reading::small_numbers), using(crate::proofs::NumberLaws::joined_end))]
 fn read_numbers(alloc: Global, fields: &mut Fields<'_>) -> Result<Option<Vec<u8>>, LineFault>
-    ensures ok { IfOk result (λ numbers. (list_all is_decimal fields.old ≡ true) × (option_map (λ v. v.items) numbers ≡ small_numbers fields.old)) }
+    ensures ok { IfOk result (λ numbers. (list_all is_decimal fields.old ≡ true)
+        × (option_map (λ v. v.items) numbers ≡ small_numbers fields.old)) }
     ensures fault { IfErr result (IsFormFault (list_all is_decimal fields.old)) }
 {
     let mut numbers = Vec::new(alloc);

@@ -54,7 +54,10 @@ fn bad_lines_are_named(rt: HostRuntime) {
 #[test]
 fn a_script_is_read_whole(rt: HostRuntime) -> Result<(), Fail> {
     let text =
-        b"arb 1 7\n0 poke 00001e00 1 000000ff\n0 poke 00001ffe 2 0000ffff\n0 poke 00003e00 4 ffffffff\n0 poke 00003fff 1 00000000\n0 poke 00010000 4 00000001\n0 poke 00012ffc 4 00000001\n0 poke 00080000 4 00000001\n0 poke 0008fffc 4 00000001\n# \xc3\xa9\narb 0 255 0\n\n3 pins 1 00ff\n3 event 63\narb 1 8\n1999999 start 0";
+        b"arb 1 7\n0 poke 00001e00 1 000000ff\n0 poke 00001ffe 2 0000ffff\n0 poke 00003e00 4 ffffffff\n\
+          0 poke 00003fff 1 00000000\n0 poke 00010000 4 00000001\n0 poke 00012ffc 4 00000001\n\
+          0 poke 00080000 4 00000001\n0 poke 0008fffc 4 00000001\n# \xc3\xa9\narb 0 255 0\n\n3 pins 1 00ff\n3 event 63\n\
+          arb 1 8\n1999999 start 0";
     let script = read_script(rt.alloc(), text)?;
     let acts = script.acts.as_slice();
     assert_eq!(rt; acts.len(), 11);

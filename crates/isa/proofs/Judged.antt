@@ -29,13 +29,15 @@ twice : (a c : Bool) → (a || c) ≡ (a || (a || c))
 twice true c = refl
 twice false c = refl
 
-equal_insert : (b : Bool) (x k l : ℕ) (xs : List ℕ) → (k == x) ≡ b → nat_lt k x ≡ false → has (insert_key nat_cmp xs k) l ≡ has (k ∷ xs) l → has (insert_key nat_cmp (x ∷ xs) k) l ≡ has (k ∷ x ∷ xs) l
+equal_insert : (b : Bool) (x k l : ℕ) (xs : List ℕ) → (k == x) ≡ b → nat_lt k x ≡ false
+    → has (insert_key nat_cmp xs k) l ≡ has (k ∷ xs) l → has (insert_key nat_cmp (x ∷ xs) k) l ≡ has (k ∷ x ∷ xs) l
 equal_insert true x k l xs e n others =
     let same : k ≡ x = grind (arith, nat_tests) in
     rw (n, e) (rw same (twice (nat_eq l x) (has xs l)))
 equal_insert false x k l xs e n others = rw (n, e) (ap (λ b. nat_eq l x || b) others ∙ swapped (nat_eq l x) (nat_eq l k) (has xs l))
 
-less_insert : (b : Bool) (x k l : ℕ) (xs : List ℕ) → nat_lt k x ≡ b → has (insert_key nat_cmp xs k) l ≡ has (k ∷ xs) l → has (insert_key nat_cmp (x ∷ xs) k) l ≡ has (k ∷ x ∷ xs) l
+less_insert : (b : Bool) (x k l : ℕ) (xs : List ℕ) → nat_lt k x ≡ b → has (insert_key nat_cmp xs k) l ≡ has (k ∷ xs) l
+    → has (insert_key nat_cmp (x ∷ xs) k) l ≡ has (k ∷ x ∷ xs) l
 less_insert true x k l xs e others = rw e
 less_insert false x k l xs e others = equal_insert (k == x) x k l xs refl e others
 
@@ -53,7 +55,8 @@ same_with_label (item.Source n) these those same l = same l
 same_with_label (item.Whole i) these those same l = same l
 same_with_label (item.Aimed i t) these those same l = same l
 
-aimed_precedes : (i : Inst) (t : Target) (these those : List ℕ) → HaveSame these those → may_precede these (item.Aimed i t) ≡ may_precede those (item.Aimed i t)
+aimed_precedes : (i : Inst) (t : Target) (these those : List ℕ) → HaveSame these those
+    → may_precede these (item.Aimed i t) ≡ may_precede those (item.Aimed i t)
 aimed_precedes (Loop body) (target.Label l) these those same = same l
 aimed_precedes _ _ these those same = refl
 
@@ -64,7 +67,8 @@ same_precedes (item.Source n) these those same = refl
 same_precedes (item.Whole i) these those same = refl
 same_precedes (item.Aimed i t) these those same = aimed_precedes i t these those same
 
-pub same_there : (these those : List ℕ) → HaveSame these those → (items : List Item) → list_all (is_there these) items ≡ list_all (is_there those) items
+pub same_there : (these those : List ℕ) → HaveSame these those → (items : List Item)
+    → list_all (is_there these) items ≡ list_all (is_there those) items
 same_there these those same [] = refl
 same_there these those same (i ∷ items) = both (one i) (same_there these those same items)
   where
@@ -89,14 +93,16 @@ same_aims Leave i t these those same = refl
 same_aims Own i t these those same = refl
 same_aims Return i t these those same = refl
 
-all_aim : (kinds : List NoteKind) (i : Inst) (t : Target) (these those : List ℕ) → HaveSame these those → list_all (λ k. may_aim these k i t) kinds ≡ list_all (λ k. may_aim those k i t) kinds
+all_aim : (kinds : List NoteKind) (i : Inst) (t : Target) (these those : List ℕ) → HaveSame these those
+    → list_all (λ k. may_aim these k i t) kinds ≡ list_all (λ k. may_aim those k i t) kinds
 all_aim [] i t these those same = refl
 all_aim (k ∷ kinds) i t these those same =
     let first = same_aims k i t these those same in
     let others = all_aim kinds i t these those same in
     cc
 
-pub same_follows : (i : Item) (kinds : List NoteKind) (these those : List ℕ) → HaveSame these those → may_follow these kinds i ≡ may_follow those kinds i
+pub same_follows : (i : Item) (kinds : List NoteKind) (these those : List ℕ) → HaveSame these those
+    → may_follow these kinds i ≡ may_follow those kinds i
 same_follows (item.Label l) kinds these those same = refl
 same_follows (item.Note k v) kinds these those same = refl
 same_follows (item.Source n) kinds these those same = refl
@@ -139,13 +145,16 @@ one_more : (i : Item) (done : List Item) → may_precede (labels done) i ≡ tru
 unfolding are_placed
 one_more i done e f = rw (e, f)
 
-pub not_placed : (items rest front done : List Item) (i : Item) (set : List ℕ) → IsPlacedBehind items rest done set → rest ≡ front ++ i ∷ [] → may_precede set i ≡ false → false ≡ are_placed items
+pub not_placed : (items rest front done : List Item) (i : Item) (set : List ℕ) → IsPlacedBehind items rest done set
+    → rest ≡ front ++ i ∷ [] → may_precede set i ≡ false → false ≡ are_placed items
 not_placed items rest front done i set h e fails =
     let here : may_precede (labels done) i ≡ false = sym (same_precedes i set (labels done) h.same) ∙ fails in
     let whole : items ≡ front ++ i ∷ done = h.whole ∙ ap (λ xs. xs ++ done) e ∙ append_assoc front (i ∷ []) done in
     sym (ap are_placed whole ∙ front_fails front (i ∷ done) (one_fails i done here))
 
-pub placed_more : (items rest front done : List Item) (i : Item) (set more : List ℕ) → IsPlacedBehind items rest done set → rest ≡ front ++ i ∷ [] → may_precede set i ≡ true → HaveSame more (with_label i set) → (now : List Item) × IsPlacedBehind items front now more
+pub placed_more : (items rest front done : List Item) (i : Item) (set more : List ℕ) → IsPlacedBehind items rest done set
+    → rest ≡ front ++ i ∷ [] → may_precede set i ≡ true → HaveSame more (with_label i set)
+    → (now : List Item) × IsPlacedBehind items front now more
 placed_more items rest front done i set more h e holds same = (
   i ∷ done,
   record {
@@ -162,20 +171,26 @@ pub record StandsBehind (items rest : List Item) (before : List ℕ) (kinds : Li
   pub same : HaveSame set before
   pub decides : notes_stand [] [] items ≡ notes_stand before kinds rest
 
-stand_on : (before : List ℕ) (kinds : List NoteKind) (i : Item) (items : List Item) → may_follow before kinds i ≡ true → notes_stand before kinds (i ∷ items) ≡ notes_stand (with_label i before) (kinds_behind kinds i) items
+stand_on : (before : List ℕ) (kinds : List NoteKind) (i : Item) (items : List Item) → may_follow before kinds i ≡ true
+    → notes_stand before kinds (i ∷ items) ≡ notes_stand (with_label i before) (kinds_behind kinds i) items
 unfolding notes_stand
 stand_on before kinds i items e = rw e
 
-stand_not : (before : List ℕ) (kinds : List NoteKind) (i : Item) (items : List Item) → may_follow before kinds i ≡ false → notes_stand before kinds (i ∷ items) ≡ false
+stand_not : (before : List ℕ) (kinds : List NoteKind) (i : Item) (items : List Item) → may_follow before kinds i ≡ false
+    → notes_stand before kinds (i ∷ items) ≡ false
 unfolding notes_stand
 stand_not before kinds i items e = rw e
 
-pub not_standing : (items rest behind : List Item) (i : Item) (before : List ℕ) (kinds : List NoteKind) (set : List ℕ) → StandsBehind items rest before kinds set → rest ≡ i ∷ behind → may_follow set kinds i ≡ false → false ≡ notes_stand [] [] items
+pub not_standing : (items rest behind : List Item) (i : Item) (before : List ℕ) (kinds : List NoteKind) (set : List ℕ)
+    → StandsBehind items rest before kinds set → rest ≡ i ∷ behind → may_follow set kinds i ≡ false → false ≡ notes_stand [] [] items
 not_standing items rest behind i before kinds set h e fails =
     let here : may_follow before kinds i ≡ false = sym (same_follows i kinds set before h.same) ∙ fails in
     sym (h.decides ∙ ap (notes_stand before kinds) e ∙ stand_not before kinds i behind here)
 
-pub standing_more : (items rest behind : List Item) (i : Item) (before : List ℕ) (kinds more_kinds : List NoteKind) (set more : List ℕ) → StandsBehind items rest before kinds set → rest ≡ i ∷ behind → may_follow set kinds i ≡ true → HaveSame more (with_label i set) → more_kinds ≡ kinds_behind kinds i → (now : List ℕ) × StandsBehind items behind now more_kinds more
+pub standing_more : (items rest behind : List Item) (i : Item) (before : List ℕ) (kinds more_kinds : List NoteKind)
+    (set more : List ℕ) → StandsBehind items rest before kinds set → rest ≡ i ∷ behind → may_follow set kinds i ≡ true
+    → HaveSame more (with_label i set) → more_kinds ≡ kinds_behind kinds i
+    → (now : List ℕ) × StandsBehind items behind now more_kinds more
 standing_more items rest behind i before kinds more_kinds set more h e holds same f =
     let here : may_follow before kinds i ≡ true = sym (same_follows i kinds set before h.same) ∙ holds in (
       with_label i before,
@@ -190,6 +205,7 @@ pub none_pending : (kinds : List NoteKind) → (length kinds == 0) ≡ is_empty 
 none_pending [] = refl
 none_pending (k ∷ kinds) = grind (arith, nat_tests)
 
-pub standing_at_end : (items rest : List Item) (before : List ℕ) (kinds : List NoteKind) (set : List ℕ) (r : Bool) → StandsBehind items rest before kinds set → rest ≡ [] → r ≡ is_empty kinds → r ≡ notes_stand [] [] items
+pub standing_at_end : (items rest : List Item) (before : List ℕ) (kinds : List NoteKind) (set : List ℕ) (r : Bool)
+    → StandsBehind items rest before kinds set → rest ≡ [] → r ≡ is_empty kinds → r ≡ notes_stand [] [] items
 unfolding notes_stand
 standing_at_end items rest before kinds set r h e is = is ∙ sym (h.decides ∙ ap (notes_stand before kinds) e)

@@ -19,7 +19,8 @@ use Rattle.isa.specs.declared.inst.AluOp.TheVariants.{Add, Sub, Lsl, Lsr, Rsb, A
 use Rattle.isa.specs.declared.transfer.Bank.{Bank}
 use Rattle.isa.specs.declared.transfer.Bank.TheVariants.{Bank0, Bank1, Bank2}
 use Rattle.isa.specs.Ranges.{signed}
-use Rattle.isa.specs.Row.{part_number, op_number, condition_number, device_number, constant_number, field_code, io, operand_code, offset_bits}
+use Rattle.isa.specs.Row.{part_number, op_number, condition_number, device_number}
+use Rattle.isa.specs.Row.{constant_number, field_code, io, operand_code, offset_bits}
 use Rattle.isa.specs.Decoded.{part_at, op_at, condition_at, bank_at, constant_at, field_at, operand_at, offset_at}
 use Rattle.isa.proofs.Ranged.{same_field, same_offset}
 

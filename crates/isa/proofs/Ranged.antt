@@ -29,7 +29,8 @@ where_true-none false f h = refl
 
 -- ---- values with the same numbers are the same: a fact has one proof
 
-by_numbers : {A X : Type 0} (P : A → Type 0) → ((a : A) → IsProp (P a)) → (make : (a : A) → P a → X) → (a b : A) (p : P a) (q : P b) → a ≡ b → make a p ≡ make b q
+by_numbers : {A X : Type 0} (P : A → Type 0) → ((a : A) → IsProp (P a)) → (make : (a : A) → P a → X) → (a b : A) (p : P a) (q : P b)
+    → a ≡ b → make a p ≡ make b q
 by_numbers P once make a b p q e = (subst (λ x. (q : P x) → make a p ≡ make x q) e (λ q. ap (make a) (once a p q))) q
 
 pub same_field : (s t : Field) → s.reg ≡ t.reg → s.part ≡ t.part → s ≡ t
@@ -39,7 +40,8 @@ same_field s t e f =
 
 pub same_offset : (s t : BranchOffset) → s.words ≡ t.words → s ≡ t
 same_offset s t e =
-    by_numbers {A = ℤ} (λ z. (neg_ℤ (pos 512) ≤ℤ z) × (z ≤ℤ pos 511)) (λ z. hlevel props) (λ z p. record { words = z; least = p.0; greatest = p.1 })
+    by_numbers {A = ℤ} (λ z. (neg_ℤ (pos 512) ≤ℤ z) × (z ≤ℤ pos 511)) (λ z. hlevel props)
+    (λ z p. record { words = z; least = p.0; greatest = p.1 })
     s.words t.words (s.least, s.greatest) (t.least, t.greatest) e
 
 same_body : (s t : LoopBody) → s.count ≡ t.count → s.length ≡ t.length → s ≡ t
@@ -58,7 +60,18 @@ same_access : (s t : Access) → s.first ≡ t.first → s.byte ≡ t.byte → s
 same_access s t d e f g h =
     by_numbers {A = ℕ × ℕ × ℕ × Base × Operand}
     (λ a. (a.1 < 4) × (1 ≤ a.2) × (4 * a.0 + a.1 + a.2 ≤ 120) × IsTrue (is_low_base a.3) × IsTrue (is_low_operand a.4)) (λ a. hlevel props)
-    (λ a p. record { first = a.0; byte = a.1; len = a.2; base = a.3; offset = a.4; in_register = p.0; some_byte = p.1; below = p.2; low_base = p.3; low_offset = p.4 })
+    (λ a p. record {
+      first = a.0;
+      byte = a.1;
+      len = a.2;
+      base = a.3;
+      offset = a.4;
+      in_register = p.0;
+      some_byte = p.1;
+      below = p.2;
+      low_base = p.3;
+      low_offset = p.4;
+    })
     (s.first, s.byte, s.len, s.base, s.offset) (t.first, t.byte, t.len, t.base, t.offset)
     (s.in_register, s.some_byte, s.below, s.low_base, s.low_offset) (t.in_register, t.some_byte, t.below, t.low_base, t.low_offset) (cc)
 
@@ -79,16 +92,21 @@ body_found b c l p q =
     let h : IsTrue (nat_lt 0 l && nat_le l 255) = grind (arith, nat_tests) in
     sym (where_true-is (nat_lt 0 l && nat_le l 255) _ h ∙ ap Some (same_body _ b (sym p) (sym q)))
 
-pub access_found : (a : Access) (r : Row) → a.first ≡ r.low % 32 → a.byte ≡ r.top / 2 % 4 → a.len ≡ length_bits r + 1 → Some a ≡ access_from r a.base a.offset
+pub access_found : (a : Access) (r : Row) → a.first ≡ r.low % 32 → a.byte ≡ r.top / 2 % 4 → a.len ≡ length_bits r + 1
+    → Some a ≡ access_from r a.base a.offset
 unfolding access_from
 access_found a r p q s =
     let below : 4 * a.first + a.byte + a.len ≤ 120 = a.below in
     let low_base : IsTrue (is_low_base a.base) = a.low_base in
     let low_offset : IsTrue (is_low_operand a.offset) = a.low_offset in
-    let h : IsTrue (is_low_base a.base && is_low_operand a.offset && nat_le (4 * (r.low % 32) + r.top / 2 % 4 + (length_bits r + 1)) 120) = grind (arith, nat_tests) in
+    let h : IsTrue (is_low_base a.base && is_low_operand a.offset && nat_le (4 * (r.low % 32) + r.top / 2 % 4 + (length_bits r + 1))
+    120) = grind (arith, nat_tests) in
     sym (where_true-is _ _ h ∙ ap Some (same_access _ a (sym p) (sym q) (sym s) refl refl))
 
-pub access_refused : (r : Row) (b : Base) (o : Operand) (first byte len : ℕ) (fits : Bool) → fits ≡ (is_low_base b && is_low_operand o && nat_le (4 * first + byte + len) 120) → fits ≡ false → first ≡ r.low % 32 → byte ≡ r.top / 2 % 4 → len ≡ length_bits r + 1 → None ≡ access_from r b o
+pub access_refused : (r : Row) (b : Base) (o : Operand) (first byte len : ℕ) (fits : Bool)
+    → fits ≡ (is_low_base b && is_low_operand o && nat_le (4 * first + byte + len) 120) → fits ≡ false → first ≡ r.low % 32
+    → byte ≡ r.top / 2 % 4 → len ≡ length_bits r + 1 → None ≡ access_from r b o
 unfolding access_from
 access_refused r b o first byte len fits e h p q s =
-    sym (where_true-none _ _ (ap (λ n. is_low_base b && is_low_operand o && nat_le n 120) (let sum : 4 * (r.low % 32) + r.top / 2 % 4 + (length_bits r + 1) ≡ 4 * first + byte + len = omega arith in sum) ∙ sym e ∙ h))
+    sym (where_true-none _ _ (ap (λ n. is_low_base b && is_low_operand o && nat_le n 120)
+    (let sum : 4 * (r.low % 32) + r.top / 2 % 4 + (length_bits r + 1) ≡ 4 * first + byte + len = omega arith in sum) ∙ sym e ∙ h))

@@ -1,5 +1,6 @@
 -- The word that the table gives an instruction is decoded as that instruction.
-use Rattle.std.proofs.Common.{◌≡◌, ℕ, ◌+◌, ◌*◌, ◌/◌, ◌%◌, ◌<◌, ◌≤◌, arith, refl, ap, sym, ◌∙◌, true, false, Option, Some, lit<, lit≤, inl, inr}
+use Rattle.std.proofs.Common.{◌≡◌, ℕ, ◌+◌, ◌*◌, ◌/◌, ◌%◌, ◌<◌, ◌≤◌, arith, refl, ap, sym, ◌∙◌}
+use Rattle.std.proofs.Common.{true, false, Option, Some, lit<, lit≤, inl, inr}
 use Rattle.std.specs.Prelude.{nat_lt, nat_le, ◌⊎◌}
 use Rattle.std.proofs.lemmas.Bool.Decides.{nat_tests}
 use Rattle.isa.specs.declared.access.Access.{Access}
@@ -19,10 +20,13 @@ use Rattle.isa.specs.declared.row.Row.{Row}
 use Rattle.isa.specs.declared.transfer.Bank.{Bank}
 use Rattle.isa.specs.declared.transfer.Bank.TheVariants.{Bank0, Bank1, Bank2}
 use Rattle.isa.specs.declared.transfer.Transfer.{Transfer}
-use Rattle.isa.specs.Row.{part_number, op_number, condition_number, device_number, field_code, io, operand_code, offset_bits, store_number, load_number, base_number, jump_row, transfer_row, access_row, row, joined, word_of, Fits, OperandFits, JumpFits}
+use Rattle.isa.specs.Row.{part_number, op_number, condition_number, device_number, field_code, io, operand_code, offset_bits}
+use Rattle.isa.specs.Row.{store_number, load_number, base_number, jump_row, transfer_row, access_row, row, joined, word_of, Fits}
+use Rattle.isa.specs.Row.{OperandFits, JumpFits}
 use Rattle.isa.specs.Decoded.{IsTarget, alu_at, jump_at, single_at, branch_at, memory_at, inst_at, split, decoded}
 use Rattle.isa.proofs.Operands.{part_number-lt, op_number-is, condition_number-is, io-lt, offset_bits-lt}
-use Rattle.isa.proofs.Formats.{alu_found, not_found, jmp_found, jal_found, ldi_found, lmbd_found, halt_found, xin_found, xout_found, loop_found, qba_found, branch_found, base_number-lt, top_of, load_found, store_found}
+use Rattle.isa.proofs.Formats.{alu_found, not_found, jmp_found, jal_found, ldi_found, lmbd_found, halt_found, xin_found, xout_found}
+use Rattle.isa.proofs.Formats.{loop_found, qba_found, branch_found, base_number-lt, top_of, load_found, store_found}
 
 -- ---- which format a top byte belongs to
 
@@ -155,20 +159,28 @@ split-joined r h =
     let low : r.low < 256 = h.low in
     same_row _ _ (omega arith) (omega arith) (omega arith) (omega arith)
 
-branch_top : (c : Condition) (o : BranchOffset) (b : Operand) → let top = 8 * condition_number c + 2 * (offset_bits o / 256) + io b in ((0x40 ≤ top) × (top < 0x80)) ⊎ ((0xC0 ≤ top) × (top < 0xE0))
-branch_top c o b = placed (condition_number c) (offset_bits o / 256) (io b) (condition_number-is c).place (let l = offset_bits-lt o in omega (arith, l)) (io-lt b)
+branch_top : (c : Condition) (o : BranchOffset) (b : Operand)
+    → let top = 8 * condition_number c + 2 * (offset_bits o / 256) + io b in ((0x40 ≤ top) × (top < 0x80)) ⊎ ((0xC0 ≤ top) × (top < 0xE0))
+branch_top c o b = placed (condition_number c) (offset_bits o / 256) (io b) (condition_number-is c).place
+    (let l = offset_bits-lt o in omega (arith, l)) (io-lt b)
   where
-    placed : (n h i : ℕ) → ((8 ≤ n) × (n < 16)) ⊎ ((24 ≤ n) × (n < 28)) → h < 4 → i < 2 → let top = 8 * n + 2 * h + i in ((0x40 ≤ top) × (top < 0x80)) ⊎ ((0xC0 ≤ top) × (top < 0xE0))
+    placed : (n h i : ℕ) → ((8 ≤ n) × (n < 16)) ⊎ ((24 ≤ n) × (n < 28)) → h < 4 → i < 2 → let top = 8 * n + 2 * h + i in
+        ((0x40 ≤ top) × (top < 0x80)) ⊎ ((0xC0 ≤ top) × (top < 0xE0))
     placed n h i (inl p) q r = inl (omega arith, omega arith)
     placed n h i (inr p) q r = inr (omega arith, omega arith)
 
 load_top : (a : Access) (b : Base) → a.base ≡ b → ((0x80 ≤ (row (Load a)).top) × ((row (Load a)).top < 0xC0)) ⊎ (0xE0 ≤ (row (Load a)).top)
-load_top a (base.Constant c) e = let n : (row (Load a)).top / 16 ≡ 9 = (top_of (load_number a.base) a).number ∙ ap load_number e in inl (omega arith, omega arith)
-load_top a (base.Reg k) e = let n : (row (Load a)).top / 16 ≡ 15 = (top_of (load_number a.base) a).number ∙ ap load_number e in inr (omega arith)
+load_top a (base.Constant c) e = let n : (row (Load a)).top / 16 ≡ 9 = (top_of (load_number a.base) a).number ∙ ap load_number e in
+    inl (omega arith, omega arith)
+load_top a (base.Reg k) e = let n : (row (Load a)).top / 16 ≡ 15 = (top_of (load_number a.base) a).number ∙ ap load_number e in
+    inr (omega arith)
 
-store_top : (a : Access) (b : Base) → a.base ≡ b → ((0x80 ≤ (row (Store a)).top) × ((row (Store a)).top < 0xC0)) ⊎ (0xE0 ≤ (row (Store a)).top)
-store_top a (base.Constant c) e = let n : (row (Store a)).top / 16 ≡ 8 = (top_of (store_number a.base) a).number ∙ ap store_number e in inl (omega arith, omega arith)
-store_top a (base.Reg k) e = let n : (row (Store a)).top / 16 ≡ 14 = (top_of (store_number a.base) a).number ∙ ap store_number e in inr (omega arith)
+store_top : (a : Access) (b : Base) → a.base ≡ b → ((0x80 ≤ (row (Store a)).top) × ((row (Store a)).top < 0xC0))
+    ⊎ (0xE0 ≤ (row (Store a)).top)
+store_top a (base.Constant c) e =
+    let n : (row (Store a)).top / 16 ≡ 8 = (top_of (store_number a.base) a).number ∙ ap store_number e in inl (omega arith, omega arith)
+store_top a (base.Reg k) e = let n : (row (Store a)).top / 16 ≡ 14 = (top_of (store_number a.base) a).number ∙ ap store_number e in
+    inr (omega arith)
 
 alu_top : (op : AluOp) (b : Operand) → 2 * op_number op + io b < 0x20
 alu_top op b = let n = (op_number-is op).below in let l = io-lt b in omega (arith, n, l)
@@ -181,14 +193,16 @@ pub inst_at-row : (i : Inst) → inst_at (row i) ≡ Some i
 inst_at-row (Alu op d a b) = at_alu (row (Alu op d a b)) (alu_top op b) ∙ alu_found (row (Alu op d a b)) op d a b refl refl refl refl
 inst_at-row (Not d a) = at_alu (row (Not d a)) (lit< tt) ∙ not_found d a
 inst_at-row (Jmp to) = let t = jump_top 0x20 to 0 in at_jump (row (Jmp to)) (omega (arith, t.0)) (omega (arith, t.1)) ∙ jmp_found to
-inst_at-row (Jal d to) = let t = jump_top 0x22 to (field_code d) in at_jump (row (Jal d to)) (omega (arith, t.0)) (omega (arith, t.1)) ∙ jal_found d to
+inst_at-row (Jal d to) = let t = jump_top 0x22 to (field_code d) in
+    at_jump (row (Jal d to)) (omega (arith, t.0)) (omega (arith, t.1)) ∙ jal_found d to
 inst_at-row (Ldi d n) = at_single (row (Ldi d n)) (lit≤ tt) (lit< tt) ∙ ldi_found d n
 inst_at-row (Lmbd d a b) = let l = io-lt b in at_single (row (Lmbd d a b)) (omega arith) (omega (arith, l)) ∙ lmbd_found d a b
 inst_at-row Halt = at_single (row Halt) (lit≤ tt) (lit< tt) ∙ halt_found
 inst_at-row (Xin t) = at_single (row (Xin t)) (lit≤ tt) (lit< tt) ∙ xin_found t
 inst_at-row (Xout t) = at_single (row (Xout t)) (lit≤ tt) (lit< tt) ∙ xout_found t
 inst_at-row (Loop b) = at_single (row (Loop b)) (lit≤ tt) (lit< tt) ∙ loop_found b
-inst_at-row (Branch c o a b) = at_branch (row (Branch c o a b)) (branch_top c o b) ∙ branch_found (row (Branch c o a b)) c o a b refl refl refl refl
+inst_at-row (Branch c o a b) = at_branch (row (Branch c o a b)) (branch_top c o b)
+    ∙ branch_found (row (Branch c o a b)) c o a b refl refl refl refl
 inst_at-row (Qba o) = let l = offset_bits-lt o in at_branch (row (Qba o)) (inl (omega arith, omega (arith, l))) ∙ qba_found o
 inst_at-row (Load a) = at_memory (row (Load a)) (load_top a a.base refl) ∙ load_found a a.base refl
 inst_at-row (Store a) = at_memory (row (Store a)) (store_top a a.base refl) ∙ store_found a a.base refl
@@ -200,6 +214,7 @@ decoded-word_of i h = ap inst_at (split-joined (row i) (row_bytes i h)) ∙ inst
 pub decoded_again : (w : ℕ) (o : Option Inst) → o ≡ decoded w → (i : Inst) → Fits i → word_of i ≡ w → o ≡ Some i
 decoded_again w o e i h f = e ∙ ap decoded (sym f) ∙ decoded-word_of i h
 
-pub target_row : (r : Row) (to : Jump) (top low : ℕ) → IsTarget (r.top % 2) to r → r.top ≡ top + r.top % 2 → low ≡ r.low → jump_row top to low ≡ r
+pub target_row : (r : Row) (to : Jump) (top low : ℕ) → IsTarget (r.top % 2) to r → r.top ≡ top + r.top % 2 → low ≡ r.low
+    → jump_row top to low ≡ r
 target_row r (jump.Field f) top low h e l = same_row _ r (let z = h.0 in omega (arith, z)) h.1 h.2 l
 target_row r (jump.Word n) top low h e l = same_row _ r (let z = h.0 in omega (arith, z)) h.1 h.2 l

@@ -52,15 +52,19 @@ found ls l h = list_any-from_Contains nat_eq_equiv l ls h
 
 all_pass : {X : Type 0} (p : X → Bool) (xs : List X) → list_all p xs ≡ true → All (λ x. IsTrue (p x)) xs
 all_pass p [] h = All-nil (λ x. IsTrue (p x))
-all_pass p (x ∷ xs) h = All-cons (λ x. IsTrue (p x)) x xs (first_of (p x) (list_all p xs) h) (all_pass p xs (last_of (p x) (list_all p xs) h))
+all_pass p (x ∷ xs) h = All-cons (λ x. IsTrue (p x)) x xs (first_of (p x) (list_all p xs) h)
+    (all_pass p xs (last_of (p x) (list_all p xs) h))
 
 pass_all : {X : Type 0} (p : X → Bool) (xs : List X) → All (λ x. IsTrue (p x)) xs → list_all p xs ≡ true
 pass_all p [] h = refl
-pass_all p (x ∷ xs) h = both_of (p x) (list_all p xs) (All-head (λ x. IsTrue (p x)) x xs h) (pass_all p xs (All-tail (λ x. IsTrue (p x)) x xs h))
+pass_all p (x ∷ xs) h = both_of (p x) (list_all p xs) (All-head (λ x. IsTrue (p x)) x xs h)
+    (pass_all p xs (All-tail (λ x. IsTrue (p x)) x xs h))
 
 -- ---- labels
 
-apart_first : (b : Bool) (l m : ℕ) (ls : List ℕ) → nat_eq l m ≡ b → (list_any (nat_eq l) ls ≡ false → AllByRecursion (λ m. nat_eq l m ≡ false) ls) → (b || list_any (nat_eq l) ls) ≡ false → AllByRecursion (λ m. nat_eq l m ≡ false) (m ∷ ls)
+apart_first : (b : Bool) (l m : ℕ) (ls : List ℕ) → nat_eq l m ≡ b
+    → (list_any (nat_eq l) ls ≡ false → AllByRecursion (λ m. nat_eq l m ≡ false) ls) → (b || list_any (nat_eq l) ls) ≡ false
+    → AllByRecursion (λ m. nat_eq l m ≡ false) (m ∷ ls)
 apart_first true l m ls e others h = cc
 apart_first false l m ls e others h = (e, others h)
 
@@ -80,13 +84,17 @@ not_is : (b : Bool) → not b ≡ true → b ≡ false
 not_is true h = sym h
 not_is false h = refl
 
-aimed_placed : (i : Inst) (t : Target) (items : List Item) → may_precede (labels items) (item.Aimed i t) ≡ true → ArePlaced items → ArePlaced (item.Aimed i t ∷ items)
+aimed_placed : (i : Inst) (t : Target) (items : List Item) → may_precede (labels items) (item.Aimed i t) ≡ true → ArePlaced items
+    → ArePlaced (item.Aimed i t ∷ items)
 aimed_placed (Loop body) (target.Label l) items h rest = record { once = rest.once; loops = (contained (labels items) l h, rest.loops) }
 aimed_placed _ _ items h rest = record { once = rest.once; loops = rest.loops }
 
 item_placed : (i : Item) (items : List Item) → may_precede (labels items) i ≡ true → ArePlaced items → ArePlaced (i ∷ items)
 unfolding IsDistinct
-item_placed (item.Label l) items h rest = record { once = (apart l (labels items) (not_is (has (labels items) l) h), rest.once); loops = rest.loops }
+item_placed (item.Label l) items h rest = record {
+  once = (apart l (labels items) (not_is (has (labels items) l) h), rest.once);
+  loops = rest.loops;
+}
 item_placed (item.Note k v) items h rest = record { once = rest.once; loops = rest.loops }
 item_placed (item.Source n) items h rest = record { once = rest.once; loops = rest.loops }
 item_placed (item.Whole i) items h rest = record { once = rest.once; loops = rest.loops }
@@ -96,7 +104,8 @@ placed : (items : List Item) → are_placed items ≡ true → ArePlaced items
 unfolding are_placed IsDistinct
 placed [] h = record { once = tt; loops = tt }
 placed (i ∷ items) h =
-    item_placed i items (first_of (may_precede (labels items) i) (are_placed items) h) (placed items (last_of (may_precede (labels items) i) (are_placed items) h))
+    item_placed i items (first_of (may_precede (labels items) i) (are_placed items) h)
+    (placed items (last_of (may_precede (labels items) i) (are_placed items) h))
 
 -- an item may stand there, and what is behind it is placed
 record IsPlacedFirst (i : Item) (items : List Item) : Type 0 where
@@ -104,12 +113,20 @@ record IsPlacedFirst (i : Item) (items : List Item) : Type 0 where
   behind : ArePlaced items
 
 aimed_first : (i : Inst) (t : Target) (items : List Item) → ArePlaced (item.Aimed i t ∷ items) → IsPlacedFirst (item.Aimed i t) items
-aimed_first (Loop body) (target.Label l) items h = record { here = found (labels items) l h.loops.0; behind = record { once = h.once; loops = h.loops.1 } }
+aimed_first (Loop body) (target.Label l) items h = record {
+  here = found (labels items) l h.loops.0;
+  behind =
+      record { once = h.once; loops = h.loops.1 };
+}
 aimed_first _ _ items h = record { here = refl; behind = record { once = h.once; loops = h.loops } }
 
 placed_first : (i : Item) (items : List Item) → ArePlaced (i ∷ items) → IsPlacedFirst i items
 unfolding IsDistinct
-placed_first (item.Label l) items h = record { here = ap not (none l (labels items) h.once.0); behind = record { once = h.once.1; loops = h.loops } }
+placed_first (item.Label l) items h = record {
+  here = ap not (none l (labels items) h.once.0);
+  behind =
+      record { once = h.once.1; loops = h.loops };
+}
 placed_first (item.Note k v) items h = record { here = refl; behind = record { once = h.once; loops = h.loops } }
 placed_first (item.Source n) items h = record { here = refl; behind = record { once = h.once; loops = h.loops } }
 placed_first (item.Whole i) items h = record { here = refl; behind = record { once = h.once; loops = h.loops } }
@@ -125,7 +142,8 @@ pass_placed (i ∷ items) h =
 there : (all : List ℕ) (items : List Item) → list_all (is_there all) items ≡ true → All (Contains all) (used items)
 there all [] h = All-nil (Contains all)
 there all (item.Aimed i (target.Label l) ∷ items) h =
-    All-cons (Contains all) l (used items) (contained all l (first_of (has all l) (list_all (is_there all) items) h)) (there all items (last_of (has all l) (list_all (is_there all) items) h))
+    All-cons (Contains all) l (used items) (contained all l (first_of (has all l) (list_all (is_there all) items) h))
+    (there all items (last_of (has all l) (list_all (is_there all) items) h))
 there all (item.Aimed i (target.Symbol s k) ∷ items) h = there all items h
 there all (item.Label l ∷ items) h = there all items h
 there all (item.Note k v ∷ items) h = there all items h
@@ -135,7 +153,8 @@ there all (item.Whole i ∷ items) h = there all items h
 pass_there : (all : List ℕ) (items : List Item) → All (Contains all) (used items) → list_all (is_there all) items ≡ true
 pass_there all [] h = refl
 pass_there all (item.Aimed i (target.Label l) ∷ items) h =
-    both_of (has all l) (list_all (is_there all) items) (found all l (All-head (Contains all) l (used items) h)) (pass_there all items (All-tail (Contains all) l (used items) h))
+    both_of (has all l) (list_all (is_there all) items) (found all l (All-head (Contains all) l (used items) h))
+    (pass_there all items (All-tail (Contains all) l (used items) h))
 pass_there all (item.Aimed i (target.Symbol s k) ∷ items) h = pass_there all items h
 pass_there all (item.Label l ∷ items) h = pass_there all items h
 pass_there all (item.Note k v ∷ items) h = pass_there all items h
@@ -177,7 +196,8 @@ kind_itself k = grind (arith, nat_tests)
 one_has : (kinds : List NoteKind) (k : NoteKind) → Contains kinds k → has_kind kinds k ≡ true
 one_has kinds k h = list_any_at (same_kind k) kinds h.0 k h.1 (ap (same_kind k) h.2 ∙ kind_itself k)
 
-stand : (items : List Item) (before : List ℕ) (kinds : List NoteKind) → notes_stand before kinds items ≡ true → NotesStand before kinds items
+stand : (items : List Item) (before : List ℕ) (kinds : List NoteKind) → notes_stand before kinds items ≡ true
+    → NotesStand before kinds items
 unfolding notes_stand
 stand [] before [] h = refl
 stand [] before (k ∷ kinds) h = cc
@@ -199,7 +219,8 @@ stand (item.Aimed i t ∷ items) before kinds h = (
   stand items before [] (last_of (list_all (λ k. may_aim before k i t) kinds) (notes_stand before [] items) h),
 )
 
-pass_stand : (items : List Item) (before : List ℕ) (kinds : List NoteKind) → NotesStand before kinds items → notes_stand before kinds items ≡ true
+pass_stand : (items : List Item) (before : List ℕ) (kinds : List NoteKind) → NotesStand before kinds items
+    → notes_stand before kinds items ≡ true
 unfolding notes_stand
 pass_stand [] before [] h = refl
 pass_stand [] before (k ∷ kinds) h = cc
@@ -210,13 +231,16 @@ pass_stand (item.Note k v ∷ items) before kinds h =
     (both_of (value_fits k v) (not (has_kind kinds k)) h.0 (not_false (has_kind kinds k) (λ e. h.1 (has_one kinds k e))))
     (pass_stand items before (kinds ++ k ∷ []) h.2)
 pass_stand (item.Whole i ∷ items) before kinds h =
-    both_of (list_all (λ k. may_rest k i) kinds) (notes_stand before [] items) (pass_all (λ k. may_rest k i) kinds h.0) (pass_stand items before [] h.1)
+    both_of (list_all (λ k. may_rest k i) kinds) (notes_stand before [] items) (pass_all (λ k. may_rest k i) kinds h.0)
+    (pass_stand items before [] h.1)
 pass_stand (item.Aimed i t ∷ items) before kinds h =
-    both_of (list_all (λ k. may_aim before k i t) kinds) (notes_stand before [] items) (pass_all (λ k. may_aim before k i t) kinds h.0) (pass_stand items before [] h.1)
+    both_of (list_all (λ k. may_aim before k i t) kinds) (notes_stand before [] items)
+    (pass_all (λ k. may_aim before k i t) kinds h.0) (pass_stand items before [] h.1)
 
 -- ---- programs
 
-whole_from : (a b c d : Bool) (items : List Item) → a ≡ list_all is_formed items → b ≡ are_placed items → c ≡ list_all (is_there (labels items)) items → d ≡ notes_stand [] [] items → (a && b && c && d) ≡ true → IsWhole items
+whole_from : (a b c d : Bool) (items : List Item) → a ≡ list_all is_formed items → b ≡ are_placed items
+    → c ≡ list_all (is_there (labels items)) items → d ≡ notes_stand [] [] items → (a && b && c && d) ≡ true → IsWhole items
 whole_from a b c d items e f g k h =
     let abc = first_of (a && b && c) d h in
     let ab = first_of (a && b) c abc in
@@ -236,13 +260,15 @@ whole_judged : (items : List Item) → IsWhole items → is_judged_whole items �
 whole_judged items h =
     both_of (list_all is_formed items && are_placed items && list_all (is_there (labels items)) items) (notes_stand [] [] items)
     (both_of (list_all is_formed items && are_placed items) (list_all (is_there (labels items)) items)
-    (both_of (list_all is_formed items) (are_placed items) (pass_all is_formed items h.formed) (pass_placed items (record { once = h.once; loops = h.loops })))
+    (both_of (list_all is_formed items) (are_placed items) (pass_all is_formed items h.formed)
+    (pass_placed items (record { once = h.once; loops = h.loops })))
     (pass_there (labels items) items h.there))
     (pass_stand items [] [] h.notes)
 
 judged_exactly : (b : Bool) (items : List Item) → b ≡ is_judged_whole items → IsTrue b ↔ IsWhole items
 judged_exactly b items e = (λ h. judged_whole items (sym e ∙ h), λ h. e ∙ whole_judged items h)
 
-pub judged_result : (r : Result Bool Memory) (items : List Item) → IfOk r (λ b. b ≡ is_judged_whole items) → IfOk r (λ b. IsTrue b ↔ IsWhole items)
+pub judged_result : (r : Result Bool Memory) (items : List Item) → IfOk r (λ b. b ≡ is_judged_whole items)
+    → IfOk r (λ b. IsTrue b ↔ IsWhole items)
 judged_result (Ok b) items h = judged_exactly b items h
 judged_result (Err e) items h = h

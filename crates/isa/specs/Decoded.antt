@@ -1,5 +1,6 @@
 -- The instruction that has a word: the word table, read from the word. The table decides; that this undoes it is proved.
-use Rattle.std.specs.Prelude.{◌≡◌, ◌≢◌, ℕ, ◌+◌, ◌*◌, ◌/◌, ◌%◌, ◌^◌, ◌==◌, ◌&&◌, ◌||◌, Bool, true, false, IsTrue, nat_lt, nat_le, if◌then◌else◌, refl, Option, Some, None, option_and_then, unwrap_or, find, [], ◌∷◌}
+use Rattle.std.specs.Prelude.{◌≡◌, ◌≢◌, ℕ, ◌+◌, ◌*◌, ◌/◌, ◌%◌, ◌^◌, ◌==◌, ◌&&◌, ◌||◌, Bool, true, false, IsTrue, nat_lt, nat_le}
+use Rattle.std.specs.Prelude.{if◌then◌else◌, refl, Option, Some, None, option_and_then, unwrap_or, find, [], ◌∷◌}
 use Rattle.isa.specs.declared.access.Access.{Access}
 use Rattle.isa.specs.declared.access.Base.{Base}
 use Rattle.isa.specs.declared.access.Base.TheVariants as base
@@ -95,7 +96,8 @@ length_bits r = 64 * (r.top / 8 % 2) + 8 * (r.second / 32 % 8) + r.low / 32 % 8
 
 unfoldable pub access_from : Row → Base → Operand → Option Access
 access_from r b o =
-    where_true (is_low_base b && is_low_operand o && nat_le (4 * (r.low % 32) + r.top / 2 % 4 + (length_bits r + 1)) 120) (λ h. Some (record {
+    where_true (is_low_base b && is_low_operand o && nat_le (4 * (r.low % 32) + r.top / 2 % 4 + (length_bits r + 1)) 120)
+    (λ h. Some (record {
       first = r.low % 32;
       byte = r.top / 2 % 4;
       len = length_bits r + 1;

@@ -1,5 +1,6 @@
 -- Notes on words, this project's own: which values they have and where each may stand.
-use Rattle.std.specs.Prelude.{ℕ, ◌^◌, ◌<◌, ◌==◌, ◌&&◌, ◌||◌, Bool, true, false, IsTrue, nat_lt, nat_le, Option, IsSomeAnd, find, List, [], ◌∷◌, length, slice_index, pos, ◌+ℤ◌, unsigned_abs}
+use Rattle.std.specs.Prelude.{ℕ, ◌^◌, ◌<◌, ◌==◌, ◌&&◌, ◌||◌, Bool, true, false, IsTrue, nat_lt, nat_le, Option, IsSomeAnd}
+use Rattle.std.specs.Prelude.{find, List, [], ◌∷◌, length, slice_index, pos, ◌+ℤ◌, unsigned_abs}
 use Rattle.std.specs.Int.{int_rem_euclid}
 use Rattle.isa.specs.declared.control.BranchOffset.{BranchOffset}
 use Rattle.isa.specs.declared.control.Jump.TheVariants as jump

@@ -1,5 +1,6 @@
 -- What it is for an assembly program to be whole, this project's own.
-use Rattle.std.specs.Prelude.{◌≡◌, ℕ, ◌==◌, ◌&&◌, Bool, true, false, not, IsTrue, nat_eq, ℤ, List, [], ◌∷◌, ◌++◌, All, Contains, pos, negsuc}
+use Rattle.std.specs.Prelude.{◌≡◌, ℕ, ◌==◌, ◌&&◌, Bool, true, false, not, IsTrue, nat_eq, ℤ, List}
+use Rattle.std.specs.Prelude.{[], ◌∷◌, ◌++◌, All, Contains, pos, negsuc}
 use Rattle.std.specs.List.{list_any, IsDistinct}
 use Rattle.isa.specs.declared.control.BranchOffset.{BranchOffset}
 use Rattle.isa.specs.declared.control.Jump.TheVariants as jump

@@ -2,8 +2,11 @@ ghost use Rattle.std.specs.Prelude.{◌≡◌, ◌+◌, ◌*◌, ◌/◌, ◌%�
 ghost use Rattle.isa.specs.declared.inst.Inst.{Inst};
 ghost use Rattle.isa.specs.Low.{is_low_base, is_low_operand, is_constant};
 ghost use Rattle.isa.specs.Ranges.{is_transfer};
-ghost use Rattle.isa.specs.Row.{row, word_of, Fits, op_number, condition_number, device_number, constant_number, field_code, io, operand_code, offset_bits, base_number, access_row};
-ghost use Rattle.isa.specs.Decoded.{IsTarget, part_at, op_at, condition_at, bank_at, constant_at, field_at, operand_at, offset_at, body_at, transfer_at, base_at, length_bits, access_from, access_at, alu_at, target_at, jump_at, single_at, branch_at, memory_at, inst_at, decoded};
+ghost use Rattle.isa.specs.Row.{row, word_of, Fits, op_number, condition_number, device_number, constant_number};
+ghost use Rattle.isa.specs.Row.{field_code, io, operand_code, offset_bits, base_number, access_row};
+ghost use Rattle.isa.specs.Decoded.{IsTarget, part_at, op_at, condition_at, bank_at, constant_at, field_at, operand_at, offset_at};
+ghost use Rattle.isa.specs.Decoded.{body_at, transfer_at, base_at, length_bits, access_from, access_at, alu_at, target_at, jump_at};
+ghost use Rattle.isa.specs.Decoded.{single_at, branch_at, memory_at, inst_at, decoded};
 
 use crate::access::{Access, Base, Constant};
 use crate::control::{BranchOffset, Condition, Jump, LoopBody};

@@ -1,6 +1,8 @@
 ghost use Rattle.std.specs.Prelude.{◌≡◌, ◌<◌, IsTrue};
 ghost use Rattle.isa.specs.Low.{is_low_base};
-ghost use Rattle.isa.specs.Row.{row, word_of, Fits, OperandFits, JumpFits, part_number, op_number, condition_number, device_number, constant_number, field_code, io, operand_code, offset_bits, store_number, load_number, base_number, jump_row, transfer_row, access_row};
+ghost use Rattle.isa.specs.Row.{row, word_of, Fits, OperandFits, JumpFits, part_number, op_number, condition_number, device_number};
+ghost use Rattle.isa.specs.Row.{constant_number, field_code, io, operand_code, offset_bits, store_number, load_number, base_number};
+ghost use Rattle.isa.specs.Row.{jump_row, transfer_row, access_row};
 
 use crate::access::{Access, Base, Constant};
 use crate::control::{BranchOffset, Condition, Jump};

@@ -27,7 +27,13 @@ impl Model for Image {
 
     ghost view = { λ a. record { words = a.words.items; data_at = a.data_at; init = a.init.items; zero = a.zero; notes = a.notes.items } };
 
-    ghost invariant = { λ a. IsImage (record { words = a.words.items; data_at = a.data_at; init = a.init.items; zero = a.zero; notes = a.notes.items }) };
+    ghost invariant = { λ a. IsImage (record {
+      words = a.words.items;
+      data_at = a.data_at;
+      init = a.init.items;
+      zero = a.zero;
+      notes = a.notes.items;
+    }) };
 }
 
 impl Image {

@@ -2,8 +2,10 @@
 
 ghost use Rattle.std.specs.Prelude.{◌≡◌, ◌↔◌, ◌∷◌, ℕ, [], IsTrue, IfOk, OnOk};
 ghost use Rattle.std.specs.List.{list_all};
-ghost use Rattle.isa.specs.Judging.{has, may_precede, with_label, are_placed, is_there, has_kind, may_follow, kinds_behind, is_empty, notes_stand, HaveSame, is_judged_whole};
-ghost use Rattle.isa.specs.Program.{IsWhole, labels, is_numbered_jump, has_target, takes_symbol, is_least_offset, is_least, is_formed, is_branch, may_aim, may_rest};
+ghost use Rattle.isa.specs.Judging.{has, may_precede, with_label, are_placed, is_there, has_kind, may_follow};
+ghost use Rattle.isa.specs.Judging.{kinds_behind, is_empty, notes_stand, HaveSame, is_judged_whole};
+ghost use Rattle.isa.specs.Program.{IsWhole, labels, is_numbered_jump, has_target, takes_symbol};
+ghost use Rattle.isa.specs.Program.{is_least_offset, is_least, is_formed, is_branch, may_aim, may_rest};
 
 use crate::control::{BranchOffset, Jump};
 use crate::inst::Inst;

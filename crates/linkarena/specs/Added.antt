@@ -18,7 +18,8 @@ module _ {T : Type 0} where
   IsWanting (Err (Memory value)) = Unit {0}
   IsWanting _ = ⊥
 
-  -- It is full exactly at 1,048,576 nodes, and memory is never wanting where there is room to spare. A refusal hands the value back and changes nothing.
+  -- It is full exactly at 1,048,576 nodes, and memory is never wanting where there is room to spare. A refusal hands the value back
+  -- and changes nothing.
   pub record Refuses (old new : Lists T) (value : T) (result : Result ℕ (AddFault T)) : Type 0 where
     pub full : IsFull result ↔ (node_count old.lists ≡ 1048576)
     pub memory : IsWanting result → old.spare ≡ 0

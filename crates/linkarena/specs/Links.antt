@@ -1,5 +1,6 @@
 -- How an arena keeps its lists. No public clause cites this module.
-use Rattle.std.specs.Prelude.{◌≡◌, ◌≢◌, ℕ, zero, suc, ◌+◌, ◌<◌, ◌≤◌, ◌⊎◌, List, [], ◌∷◌, ◌++◌, length, map, Option, Some, None, slice_index_or, slice_set}
+use Rattle.std.specs.Prelude.{◌≡◌, ◌≢◌, ℕ, zero, suc, ◌+◌, ◌<◌, ◌≤◌, ◌⊎◌, List, [], ◌∷◌, ◌++◌, length}
+use Rattle.std.specs.Prelude.{map, Option, Some, None, slice_index_or, slice_set}
 use Rattle.std.specs.Option.{option_map, ForSome}
 use Rattle.slab.specs.Slab.{Slab, get, slab_len, ContainsKey}
 use Rattle.linkarena.specs.Lists.{list_at, node_count, first_id, last_id}

@@ -26,7 +26,8 @@ module _ {T : Type 0} where
   node_count lists = sum_by length lists
 
   -- the node stands in a list, with this value, between what is before it and what is behind it
-  pub record Stands (lists : List (List (ℕ × T))) (list : ℕ) (front : List (ℕ × T)) (node : ℕ) (value : T) (back : List (ℕ × T)) : Type 0 where
+  pub record Stands (lists : List (List (ℕ × T))) (list : ℕ) (front : List (ℕ × T)) (node : ℕ) (value : T) (back : List (ℕ × T)) :
+      Type 0 where
     pub at : list_at lists list ≡ front ++ (node, value) ∷ back
 
   -- a node with this id is in one of the lists
@@ -42,12 +43,14 @@ module _ {T : Type 0} where
     pub same_list : (node list other : ℕ) (front front' : List (ℕ × T)) (value value' : T) (back back' : List (ℕ × T))
         → Stands lists list front node value back → Stands lists other front' node value' back' → list ≡ other
     pub same_place : (node list : ℕ) (front front' : List (ℕ × T)) (value value' : T) (back back' : List (ℕ × T))
-        → Stands lists list front node value back → Stands lists list front' node value' back' → (front ≡ front') × (value ≡ value') × (back ≡ back')
+        → Stands lists list front node value back → Stands lists list front' node value' back'
+        → (front ≡ front') × (value ≡ value') × (back ≡ back')
 
   -- wherever the node stands, P holds of the place
   abbrev pub AtItsPlace : List (List (ℕ × T)) → ℕ → (ℕ → List (ℕ × T) → T → List (ℕ × T) → Type 0) → Type 0
   AtItsPlace lists node P =
-      (list : ℕ) (front : List (ℕ × T)) (value : T) (back : List (ℕ × T)) → Stands lists list front node value back → P list front value back
+      (list : ℕ) (front : List (ℕ × T)) (value : T) (back : List (ℕ × T)) → Stands lists list front node value back
+      → P list front value back
 
   -- the id of a list's first node
   abbrev pub first_id : List (ℕ × T) → Option ℕ

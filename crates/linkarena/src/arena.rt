@@ -144,7 +144,8 @@ impl<T> Arena<T> {
     pub fn set(&mut self, node: NodeId, value: T) -> T
         requires { IsLive self.old.lists node }
         ensures old { AtItsPlace self.old.lists node (λ _ _ here _. result ≡ here) }
-        ensures set { AtItsPlace self.old.lists node (λ list front _ back. self.new.lists ≡ slice_set self.old.lists list (front ++ (node, value) ∷ back)) }
+        ensures set { AtItsPlace self.old.lists node (λ list front _ back. self.new.lists
+            ≡ slice_set self.old.lists list (front ++ (node, value) ∷ back)) }
         ensures spare { self.new.spare ≡ self.old.spare }
     {
         self.links.set_value(node.key, value)
@@ -153,7 +154,8 @@ impl<T> Arena<T> {
     /// Puts a value last in a list.
     pub fn push_back(&mut self, list: ListId, value: T) -> Result<NodeId, AddFault<T>>
         requires { list < length self.old.lists }
-        ensures added { IfOk result (λ node. self.new.lists ≡ slice_set self.old.lists list (list_at self.old.lists list ++ (node, value) ∷ [])) }
+        ensures added { IfOk result (λ node. self.new.lists ≡ slice_set self.old.lists list
+            (list_at self.old.lists list ++ (node, value) ∷ [])) }
         ensures fresh { IfOk result (λ node. ¬ IsLive self.old.lists node) }
         ensures refuses { Refuses self.old self.new value result }
     {
@@ -211,7 +213,8 @@ impl<T> Arena<T> {
         value: T,
     ) -> Result<NodeId, AddFault<T>>
         requires { IsGap self.old.lists list prev next }
-        ensures added { IfOk result (λ node. (front back : _) → list_at self.old.lists list ≡ front ++ back → prev ≡ last_id front → next ≡ first_id back
+        ensures added { IfOk result (λ node. (front back : _) → list_at self.old.lists list ≡ front ++ back → prev ≡ last_id front
+            → next ≡ first_id back
             → self.new.lists ≡ slice_set self.old.lists list (front ++ (node, value) ∷ back)) }
         ensures fresh { IfOk result (λ node. ¬ IsLive self.old.lists node) }
         ensures refuses { Refuses self.old self.new value result }

@@ -96,7 +96,8 @@ impl<T> Links<T> {
     /// Says that a node belongs to another list.
     pub fn set_list(&mut self, key: usize, list: usize)
         requires { ContainsKey self.old.nodes key }
-        ensures { store_of self.new ≡ record (store_of self.old) { nodes = changed_at self.old.nodes key (λ node. record node { list = list }) } }
+        ensures { store_of self.new ≡ record (store_of self.old)
+            { nodes = changed_at self.old.nodes key (λ node. record node { list = list }) } }
     {
         self.nodes[key].list = list;
     }
@@ -105,7 +106,8 @@ impl<T> Links<T> {
     pub fn set_value(&mut self, key: usize, value: T) -> T
         requires { ContainsKey self.old.nodes key }
         ensures old { IfSome (get self.old.nodes key) (λ node. node.value ≡ result) }
-        ensures set { store_of self.new ≡ record (store_of self.old) { nodes = changed_at self.old.nodes key (λ node. record node { value = value }) } }
+        ensures set { store_of self.new ≡ record (store_of self.old)
+            { nodes = changed_at self.old.nodes key (λ node. record node { value = value }) } }
     {
         mem::replace(&mut self.nodes[key].value, value)
     }

@@ -1,5 +1,7 @@
 -- What keeps a function valid: another register, another label, another operation.
-use Rattle.std.proofs.Common.{◌≡◌, ℕ, zero, suc, ◌+◌, ◌<◌, ◌⊎◌, inl, inr, Bool, true, false, not, ◌&&◌, ◌||◌, List, [], ◌∷◌, ◌++◌, length, Option, Some, None, refl, sym, subst, ap, ◌∙◌, arith, nat_lt, nat_le, slice_set, length-append, length-take, append-nil, append_assoc, lit<}
+use Rattle.std.proofs.Common.{◌≡◌, ℕ, zero, suc, ◌+◌, ◌<◌, ◌⊎◌, inl, inr, Bool, true, false, not, ◌&&◌, ◌||◌, List, [], ◌∷◌, ◌++◌}
+use Rattle.std.proofs.Common.{length, Option, Some, None, refl, sym, subst, ap, ◌∙◌, arith, nat_lt, nat_le, slice_set}
+use Rattle.std.proofs.Common.{length-append, length-take, append-nil, append_assoc, lit<}
 use Rattle.std.specs.Prelude.{slice_get, ◌==◌, IfSome}
 use Rattle.std.specs.List.{list_all, list_any}
 use Rattle.std.proofs.lemmas.Bool.{and_parts, and_from, ltb-true, lt-ltb, not-true, eqb-false, ne_eqb, eq-eqb}
@@ -15,7 +17,8 @@ use Rattle.midcode.specs.declared.register.Label.{Label}
 use Rattle.midcode.specs.declared.register.VReg.{VReg}
 use Rattle.midcode.specs.declared.signature.Signature.{Signature}
 use Rattle.midcode.specs.Operation.{is_value, reads, writes, label_of, target_of, base_reads, volatile_reads, parameters}
-use Rattle.midcode.specs.Function.{Function, IsValidFunction, IsNode, MayFollow, IsPushed, fits, is_sized, is_word, has, size_at, size_of, each_of, kinds, kinds_of, standing, stands, are_distinct, same_widths}
+use Rattle.midcode.specs.Function.{Function, IsValidFunction, IsNode, MayFollow, IsPushed, fits, is_sized, is_word, has, size_at}
+use Rattle.midcode.specs.Function.{size_of, each_of, kinds, kinds_of, standing, stands, are_distinct, same_widths}
 
 -- ---- another register
 

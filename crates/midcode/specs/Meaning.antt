@@ -1,5 +1,6 @@
 -- What operations do, and the run of a program.
-use Rattle.std.specs.Prelude.{ℕ, ◌+◌, ◌%◌, ◌^◌, ◌==◌, ◌&&◌, not, Bool, true, false, nat_lt, nat_le, List, [], ◌∷◌, ◌++◌, replicate, Option, Some, None, slice_get, slice_index, if◌then◌else◌}
+use Rattle.std.specs.Prelude.{ℕ, ◌+◌, ◌%◌, ◌^◌, ◌==◌, ◌&&◌, not, Bool, true, false, nat_lt, nat_le, List, [], ◌∷◌, ◌++◌}
+use Rattle.std.specs.Prelude.{replicate, Option, Some, None, slice_get, slice_index, if◌then◌else◌}
 use Rattle.behaviour.specs.declared.stop.Stop.TheVariants.{Ended, Stuck}
 use Rattle.behaviour.specs.Ran.{Ran, Done, Stopped}
 use Rattle.behaviour.specs.Machine.{exec}
@@ -34,7 +35,8 @@ use Rattle.midcode.specs.Function.{Function, kinds, size_at}
 use Rattle.midcode.specs.Program.{Program}
 use Rattle.midcode.specs.Stored.{Stored}
 use Rattle.midcode.specs.Cost.{charge}
-use Rattle.midcode.specs.Machine.{Wild, MoreTurns, FewerTurns, Frame, Caller, State, Does, giving, done, with_state, in_turn, sure, get, put, at_place, onwards, load, store, stored, show, read, allowed}
+use Rattle.midcode.specs.Machine.{Wild, MoreTurns, FewerTurns, Frame, Caller, State, Does, giving, done, with_state, in_turn}
+use Rattle.midcode.specs.Machine.{sure, get, put, at_place, onwards, load, store, stored, show, read, allowed}
 
 -- ---- the program at hand
 

@@ -1,6 +1,7 @@
 -- How the operations of a function hang together: jumps, regions, and loops with turns. Operations that only compute a value count
 -- for nothing here: a place is the number of the other operations before it.
-use Rattle.std.specs.Prelude.{ℕ, ◌+◌, ◌==◌, ◌&&◌, ◌||◌, not, Bool, true, false, nat_lt, nat_le, List, [], ◌∷◌, ◌++◌, filter, Option, Some, None, if◌then◌else◌}
+use Rattle.std.specs.Prelude.{ℕ, ◌+◌, ◌==◌, ◌&&◌, ◌||◌, not, Bool, true, false, nat_lt, nat_le, List, []}
+use Rattle.std.specs.Prelude.{◌∷◌, ◌++◌, filter, Option, Some, None, if◌then◌else◌}
 use Rattle.std.specs.List.{list_all, list_any, filter_map}
 use Rattle.midcode.specs.declared.register.Label.{Label}
 use Rattle.midcode.specs.declared.op.OpKind.{OpKind}

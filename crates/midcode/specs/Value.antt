@@ -1,5 +1,6 @@
 -- What operations compute, on numbers of 32 bits.
-use Rattle.std.specs.Prelude.{ℕ, zero, suc, ◌+◌, ◌-◌, ◌*◌, ◌/◌, ◌%◌, ◌^◌, ◌==◌, Bool, nat_lt, nat_le, not, if◌then◌else◌, bit_and, bit_or, bit_xor}
+use Rattle.std.specs.Prelude.{ℕ, zero, suc, ◌+◌, ◌-◌, ◌*◌, ◌/◌, ◌%◌, ◌^◌, ◌==◌, Bool, nat_lt, nat_le}
+use Rattle.std.specs.Prelude.{not, if◌then◌else◌, bit_and, bit_or, bit_xor}
 use Rattle.prunum.specs.Number.{quot_u, quot_s, rem_u, rem_s, shl, shr_u, shr_s}
 use Rattle.midcode.specs.declared.op.UnaryOp.{UnaryOp}
 use Rattle.midcode.specs.declared.op.UnaryOp.TheVariants.{Negate, Complement, Not}

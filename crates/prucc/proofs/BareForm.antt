@@ -14,8 +14,11 @@ use Rattle.csyn.specs.declared.unit.Head.{Head}
 use Rattle.csyn.specs.declared.unit.UnitKind.{UnitKind}
 use Rattle.csyn.specs.declared.unit.UnitKind.TheVariants as kind
 use Rattle.csyn.specs.declared.unit.Units as units
-use Rattle.csyn.specs.Bare.{bare_pointers, bare_parameters, bare_kind, bare_exprs, bare_stmt_kind, bare_items, bare_head, bare_unit_kind, bare_units}
-use Rattle.prucc.specs.Form.{is_plain_void, has_no_pointers, takes_void, is_main, is_output, loadable_of, assigned, write_of, is_nothing, calls_halt, halts, is_end, BodyWrites, IsMain, IsMainAlone, IsProgram, body_departure, unit_departure, units_departure}
+use Rattle.csyn.specs.Bare.{bare_pointers, bare_parameters, bare_kind, bare_exprs, bare_stmt_kind}
+use Rattle.csyn.specs.Bare.{bare_items, bare_head, bare_unit_kind, bare_units}
+use Rattle.prucc.specs.Form.{is_plain_void, has_no_pointers, takes_void, is_main, is_output, loadable_of, assigned, write_of}
+use Rattle.prucc.specs.Form.{is_nothing, calls_halt, halts, is_end, BodyWrites, IsMain, IsMainAlone, IsProgram, body_departure}
+use Rattle.prucc.specs.Form.{unit_departure, units_departure}
 
 -- ---- statements
 
@@ -93,9 +96,11 @@ void-bare (parameters.Some _) = refl
 
 head-bare : (head : Head) → is_main (bare_head head) ≡ is_main head
 unfolding is_main
-head-bare head = λ i. is_plain_void head.specifiers && (pointers-bare head.pointers i && (bytes_eq head.name (codes "main") && void-bare head.parameters i))
+head-bare head = λ i. is_plain_void head.specifiers && (pointers-bare head.pointers i &&
+    (bytes_eq head.name (codes "main") && void-bare head.parameters i))
 
-unit-bare : (end begin : Span) (k : UnitKind) (rest : units.Units) → unit_departure end begin (bare_unit_kind k) (bare_units rest) ≡ unit_departure end begin k rest
+unit-bare : (end begin : Span) (k : UnitKind) (rest : units.Units)
+    → unit_departure end begin (bare_unit_kind k) (bare_units rest) ≡ unit_departure end begin k rest
 unit-bare end begin (kind.Function head body) units.End = λ i. if head-bare head i then body-bare end 0 body i else Some begin
 unit-bare end begin (kind.Function head body) (units.More' u _ _) = λ i. if head-bare head i then Some u.value.mark.span else Some begin
 unit-bare end begin (kind.Struct _ _) rest = refl
@@ -121,14 +126,16 @@ main-to (units.More' u _ units.End) body h = kind-to u.value.kind body h
 main-to (units.More' _ _ (units.More' _ _ _)) body h = absurd h
 main-to units.End body h = absurd h
 
-kind-from : (k : UnitKind) (body : items.Items) → IsMain (bare_unit_kind k) body → (inner : items.Items) × IsMain k inner × (body ≡ bare_items inner)
+kind-from : (k : UnitKind) (body : items.Items) → IsMain (bare_unit_kind k) body
+    → (inner : items.Items) × IsMain k inner × (body ≡ bare_items inner)
 kind-from (kind.Function head all) body h = (all, (sym (head-bare head) ∙ h.0, refl), sym h.1)
 kind-from (kind.Struct _ _) body h = absurd h
 kind-from kind.Register body h = absurd h
 kind-from (kind.Object _) body h = absurd h
 kind-from (kind.Prototype _) body h = absurd h
 
-main-from : (all : units.Units) (body : items.Items) → IsMainAlone (bare_units all) body → (inner : items.Items) × IsMainAlone all inner × (body ≡ bare_items inner)
+main-from : (all : units.Units) (body : items.Items) → IsMainAlone (bare_units all) body
+    → (inner : items.Items) × IsMainAlone all inner × (body ≡ bare_items inner)
 unfolding IsMainAlone
 main-from (units.More' u _ units.End) body h = kind-from u.value.kind body h
 main-from (units.More' _ _ (units.More' _ _ _)) body h = absurd h

@@ -20,11 +20,13 @@ pub tokens_broken : (bytes : List ℕ) (fault : SourceFault) → text.IsFaultOf 
 tokens_broken bytes (source.Broken span cause) h = InTokens h
 tokens_broken bytes source.Memory h = tt
 
-pub expansion_broken : (bytes : List ℕ) (written : List Token) (fault : SourceFault) → text.Spells written bytes → expansion.IsFaultOf written fault → IsFaultOf bytes fault
+pub expansion_broken : (bytes : List ℕ) (written : List Token) (fault : SourceFault) → text.Spells written bytes
+    → expansion.IsFaultOf written fault → IsFaultOf bytes fault
 expansion_broken bytes written (source.Broken span cause) spelled h = InExpansion written spelled h
 expansion_broken bytes written source.Memory spelled h = tt
 
-pub grammar_broken : (bytes : List ℕ) (tokens : List Token) (fault : SourceFault) → IsExpandedTo bytes tokens → parsed.IsFaultOf tokens fault → IsFaultOf bytes fault
+pub grammar_broken : (bytes : List ℕ) (tokens : List Token) (fault : SourceFault) → IsExpandedTo bytes tokens
+    → parsed.IsFaultOf tokens fault → IsFaultOf bytes fault
 grammar_broken bytes tokens (source.Broken span cause) expanded h = InGrammar tokens expanded h
 grammar_broken bytes tokens source.Memory expanded h = tt
 
@@ -32,11 +34,13 @@ pub fault_refuses : (bytes : List ℕ) (fault : SourceFault) → IsFaultOf bytes
 fault_refuses bytes (source.Broken span cause) h = h
 fault_refuses bytes source.Memory h = tt
 
-pub form_refuses : (bytes : List ℕ) (tree : Contents) (fault : FormFault) → IsTreeOf tree bytes → FormFails tree fault → Refuses bytes (refusal_at fault)
+pub form_refuses : (bytes : List ℕ) (tree : Contents) (fault : FormFault) → IsTreeOf tree bytes → FormFails tree fault
+    → Refuses bytes (refusal_at fault)
 form_refuses bytes tree (form.At span) of_source h = record { tree = tree; of_source = of_source; departs = h }
 form_refuses bytes tree form.Memory of_source h = tt
 
-pub not_built_fails : (core : ℕ) (name text : List ℕ) (span : Span) (s : Status) → IsUnbuilt text span → NotBuiltIn name span s → SourceFails core name text s
+pub not_built_fails : (core : ℕ) (name text : List ℕ) (span : Span) (s : Status) → IsUnbuilt text span → NotBuiltIn name span s
+    → SourceFails core name text s
 not_built_fails core name text span (NotBuilt file place) unbuilt h = (h.0, subst (IsUnbuilt text) (sym h.1) unbuilt)
 not_built_fails core name text span NoMemory unbuilt h = tt
 not_built_fails core name text span Done unbuilt h = h

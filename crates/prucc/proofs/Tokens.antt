@@ -28,15 +28,18 @@ no_end (token.Punctuator p) bytes h = refl
 no_end (token.Standard _) bytes h = refl
 no_end token.End bytes h = absurd h
 
-piece_no_end : (place : Place) (kind : Option TokenKind) (bytes behind : List ℕ) (pieces : List Piece) → Stands (record { kind = kind; bytes = bytes }) behind
-    → ((next : Place) → line.NoEnd (tokens_from next pieces)) → line.NoEnd (tokens_from place (record { kind = kind; bytes = bytes } ∷ pieces))
+piece_no_end : (place : Place) (kind : Option TokenKind) (bytes behind : List ℕ) (pieces : List Piece)
+    → Stands (record { kind = kind; bytes = bytes }) behind
+    → ((next : Place) → line.NoEnd (tokens_from next pieces))
+    → line.NoEnd (tokens_from place (record { kind = kind; bytes = bytes } ∷ pieces))
 piece_no_end place None bytes behind pieces stands rest = rest (after_piece place (record { kind = None; bytes = bytes }))
 piece_no_end place (Some k) bytes behind pieces stands rest =
     (no_end k bytes stands.0, rest (after_piece place (record { kind = Some k; bytes = bytes })))
 
 none_ends : (place : Place) (pieces : List Piece) (text left : List ℕ) → IsCut pieces text left → line.NoEnd (tokens_from place pieces)
 none_ends place [] text left h = tt
-none_ends place (piece ∷ pieces) text left h = piece_no_end place piece.kind piece.bytes h.0 pieces h.2 (λ next. none_ends next pieces h.0 left h.3)
+none_ends place (piece ∷ pieces) text left h = piece_no_end place piece.kind piece.bytes h.0 pieces h.2
+    (λ next. none_ends next pieces h.0 left h.3)
 
 pub written_ends : (tokens : List Token) (text : List ℕ) → Spells tokens text → line.EndsOnce tokens
 written_ends tokens text h = (tokens_from start h.0, token_of (place_after start h.0) token.End, h.2, refl, none_ends start h.0 text [] h.1)

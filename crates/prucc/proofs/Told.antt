@@ -11,7 +11,8 @@ use Rattle.prucc.specs.Answers.{IsLongFrom, LongZero, LongOne, LongScript}
 use Rattle.prucc.specs.RunAnswer.{ReadFails, InputFails, Holds, HoldsInputs}
 
 -- two calls, one after the other
-pub Tells-then : {T : Type 0} (a b c : Option T) (P Q R : T → T → Type 0) → ((x y z : T) → P x y → Q y z → R x z) → Tells a b P → Tells b c Q → Tells a c R
+pub Tells-then : {T : Type 0} (a b c : Option T) (P Q R : T → T → Type 0) → ((x y z : T) → P x y → Q y z → R x z) → Tells a b P
+    → Tells b c Q → Tells a c R
 Tells-then a b None P Q R f p q = tt
 Tells-then a None (Some z) P Q R f p q = absurd q
 Tells-then None (Some y) (Some z) P Q R f p q = absurd p
@@ -29,18 +30,21 @@ same-then x y z p q name = q name ∙ p name
 pub content-same : (x y : Held) (name : List ℕ) → IsSameFiles x y → content y name ≡ content x name
 content-same x y name same = ap (λ (o : Option (List ℕ)). unwrap_or o []) (same name)
 
-pub Tells-since : {T : Type 0} (a b c : Option T) (P : T → T → Type 0) (Q R : T → Type 0) → ((x y : T) → P x y → Q y → R x) → Tells a b P → Tells b c (λ y _. Q y) → Tells a c (λ x _. R x)
+pub Tells-since : {T : Type 0} (a b c : Option T) (P : T → T → Type 0) (Q R : T → Type 0) → ((x y : T) → P x y → Q y → R x)
+    → Tells a b P → Tells b c (λ y _. Q y) → Tells a c (λ x _. R x)
 Tells-since a b c P Q R f p q = Tells-then a b c P (λ y _. Q y) (λ x _. R x) (λ x y z h k. f x y h k) p q
 
 abbrev pub HoldsTwo : Asked → List ℕ → List ℕ → Held → Held → Type 0
 HoldsTwo r zero one before after = (zero ≡ content before r.zero) × (one ≡ content before r.one) × IsSameFiles before after
 
-pub two_held : (r : Asked) (zero one : List ℕ) (a b c : Option Held) → Tells a b (Holds zero r.zero) → Tells b c (Holds one r.one) → Tells a c (HoldsTwo r zero one)
+pub two_held : (r : Asked) (zero one : List ℕ) (a b c : Option Held) → Tells a b (Holds zero r.zero) → Tells b c (Holds one r.one)
+    → Tells a c (HoldsTwo r zero one)
 two_held r zero one a b c p q =
     Tells-then a b c (Holds zero r.zero) (Holds one r.one) (HoldsTwo r zero one)
     (λ x y z h k. (h.whole, k.whole ∙ content-same x y r.one h.same, same-then x y z h.same k.same)) p q
 
-pub three_held : (r : Asked) (inputs : Inputs) (a b c d : Option Held) → Tells a b (Holds inputs.zero.items r.zero) → Tells b c (Holds inputs.one.items r.one) → Tells c d (Holds inputs.script.items r.script)
+pub three_held : (r : Asked) (inputs : Inputs) (a b c d : Option Held) → Tells a b (Holds inputs.zero.items r.zero)
+    → Tells b c (Holds inputs.one.items r.one) → Tells c d (Holds inputs.script.items r.script)
     → Tells a d (HoldsInputs r inputs)
 three_held r inputs a b c d p q s =
     Tells-then a c d (HoldsTwo r inputs.zero.items inputs.one.items) (Holds inputs.script.items r.script) (HoldsInputs r inputs)
@@ -74,13 +78,15 @@ within_since bytes file max e within = subst (λ (t : List ℕ). length t ≤ ma
 long_since : (file other : List ℕ) (max : ℕ) → file ≡ other → max < length file → max < length other
 long_since file other max e long = subst (λ (t : List ℕ). max < length t) e long
 
-pub one_fails : (r : Asked) (zero : List ℕ) (a b c : Option Held) (f0 f1 f2 : ℕ) (s : Status) → length zero ≤ 65536 → f0 ≤ f1 → Tells a b (Holds zero r.zero)
+pub one_fails : (r : Asked) (zero : List ℕ) (a b c : Option Held) (f0 f1 f2 : ℕ) (s : Status) → length zero ≤ 65536 → f0 ≤ f1
+    → Tells a b (Holds zero r.zero)
     → ReadFails r.one 65536 b c f1 f2 s → InputFails r a c f0 f2 s
 one_fails r zero a b c f0 f1 f2 (ReadFault file) within le told h = (inr (inl h.0), rose-since f0 f1 f2 le h.1)
 one_fails r zero a b c f0 f1 f2 (TooLong file max) within le told h = (
   inr (inl (h.0, h.1)),
   Tells-since a b c (Holds zero r.zero) (λ y. 65536 < length (content y r.one)) (λ x. IsLongFrom x r file max)
-      (λ x y held long. LongOne (within_since zero (content x r.zero) 65536 held.whole within) h.0 h.1 (long_since (content y r.one) (content x r.one) 65536 (content-same x y r.one held.same) long))
+      (λ x y held long. LongOne (within_since zero (content x r.zero) 65536 held.whole within) h.0 h.1
+      (long_since (content y r.one) (content x r.one) 65536 (content-same x y r.one held.same) long))
       told h.2,
 )
 one_fails r zero a b c f0 f1 f2 NoMemory within le told h = tt
@@ -90,13 +96,15 @@ one_fails r zero a b c f0 f1 f2 Words within le told h = h
 one_fails r zero a b c f0 f1 f2 (WriteFault _) within le told h = h
 one_fails r zero a b c f0 f1 f2 (NotBuilt _ _) within le told h = h
 
-pub script_fails : (r : Asked) (zero one : List ℕ) (a b c : Option Held) (f0 f1 f2 : ℕ) (s : Status) → length zero ≤ 65536 → length one ≤ 65536 → f0 ≤ f1 → Tells a b (HoldsTwo r zero one)
+pub script_fails : (r : Asked) (zero one : List ℕ) (a b c : Option Held) (f0 f1 f2 : ℕ) (s : Status) → length zero ≤ 65536
+    → length one ≤ 65536 → f0 ≤ f1 → Tells a b (HoldsTwo r zero one)
     → ReadFails r.script 1048576 b c f1 f2 s → InputFails r a c f0 f2 s
 script_fails r zero one a b c f0 f1 f2 (ReadFault file) within also le told h = (inr (inr h.0), rose-since f0 f1 f2 le h.1)
 script_fails r zero one a b c f0 f1 f2 (TooLong file max) within also le told h = (
   inr (inr (h.0, h.1)),
   Tells-since a b c (HoldsTwo r zero one) (λ y. 1048576 < length (content y r.script)) (λ x. IsLongFrom x r file max)
-      (λ x y held long. LongScript (within_since zero (content x r.zero) 65536 held.0 within) (within_since one (content x r.one) 65536 held.1 also) h.0 h.1
+      (λ x y held long. LongScript (within_since zero (content x r.zero) 65536 held.0 within)
+      (within_since one (content x r.one) 65536 held.1 also) h.0 h.1
       (long_since (content y r.script) (content x r.script) 1048576 (content-same x y r.script held.2) long))
       told h.2,
 )

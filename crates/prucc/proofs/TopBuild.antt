@@ -28,24 +28,33 @@ length_stamped cycle [] = refl
 length_stamped cycle (e ∷ es) = omega (arith, length_stamped (cycle + 1) es)
 
 length_shown : (n : ℕ) (ks : List ℕ) → length (shown_in n ks) ≡ min n (event_count ks)
-length_shown n ks = omega (arith, length-take n (meaning ks), length-append (map (λ (k : ℕ). events.Write Reg30 B4 k) ks) (events.Halted ∷ []), length-map ks (λ (k : ℕ). events.Write Reg30 B4 k))
+length_shown n ks = omega (
+  arith,
+  length-take n (meaning ks),
+  length-append (map (λ (k : ℕ). events.Write Reg30 B4 k) ks)
+      (events.Halted ∷ []),
+  length-map ks (λ (k : ℕ). events.Write Reg30 B4 k),
+)
 
 -- a run that shows the meaning has the meaning's line
-pub line_is : (core n : ℕ) (ks : List ℕ) (o : Outcome) → ShowsMeaning ks n o → core_line core (length o.trace.items) o.count o.stop ≡ summary_line core n ks
+pub line_is : (core n : ℕ) (ks : List ℕ) (o : Outcome) → ShowsMeaning ks n o
+    → core_line core (length o.trace.items) o.count o.stop ≡ summary_line core n ks
 line_is core n ks o h =
     let events : length o.trace.items ≡ min n (event_count ks) = ap length h.trace ∙ length_stamped 0 (shown_in n ks) ∙ length_shown n ks in
     ap (λ (e : ℕ). core_line core e o.count o.stop) events
     ∙ ap (λ (i : ℕ). core_line core (min n (event_count ks)) i o.stop) h.count
     ∙ ap (λ (s : Stop). core_line core (min n (event_count ks)) (min n (event_count ks)) s) h.stop
 
-pub events_are : (n : ℕ) (ks0 ks1 : List ℕ) (zero one : Outcome) → ShowsMeaning ks0 n zero → ShowsMeaning ks1 n one → events_text (events_of zero.trace.items) (events_of one.trace.items) ≡ events_file n ks0 ks1
+pub events_are : (n : ℕ) (ks0 ks1 : List ℕ) (zero one : Outcome) → ShowsMeaning ks0 n zero → ShowsMeaning ks1 n one
+    → events_text (events_of zero.trace.items) (events_of one.trace.items) ≡ events_file n ks0 ks1
 events_are n ks0 ks1 zero one h k =
     ap (λ (es : List Event). events_text es (events_of one.trace.items)) (ap events_of h.trace ∙ events_stamped 0 (shown_in n ks0))
     ∙ ap (λ (es : List Event). events_text (shown_in n ks0) es) (ap events_of k.trace ∙ events_stamped 0 (shown_in n ks1))
 
 -- ---- refusals
 
-pub zero_fails : (r : Asked) (inputs : Inputs) (s : Status) → inputs.script.items ≡ [] → SourceFails 0 r.zero inputs.zero.items s → BuildFails r inputs s
+pub zero_fails : (r : Asked) (inputs : Inputs) (s : Status) → inputs.script.items ≡ [] → SourceFails 0 r.zero inputs.zero.items s
+    → BuildFails r inputs s
 zero_fails r inputs (NotBuilt file span) empty h = OfZero empty h.1 h.0
 zero_fails r inputs (Source core span cause) empty h = InZero empty h.0 h.1
 zero_fails r inputs NoMemory empty h = tt
@@ -55,7 +64,8 @@ zero_fails r inputs (ReadFault file) empty h = h
 zero_fails r inputs (WriteFault file) empty h = h
 zero_fails r inputs (TooLong file max) empty h = h
 
-pub one_fails : (r : Asked) (inputs : Inputs) (ks : List ℕ) (s : Status) → inputs.script.items ≡ [] → Writes inputs.zero.items ks → SourceFails 1 r.one inputs.one.items s → BuildFails r inputs s
+pub one_fails : (r : Asked) (inputs : Inputs) (ks : List ℕ) (s : Status) → inputs.script.items ≡ [] → Writes inputs.zero.items ks
+    → SourceFails 1 r.one inputs.one.items s → BuildFails r inputs s
 one_fails r inputs ks (NotBuilt file span) empty zero h = OfOne empty ks zero h.1 h.0
 one_fails r inputs ks (Source core span cause) empty zero h = InOne empty ks zero h.0 h.1
 one_fails r inputs ks NoMemory empty zero h = tt

@@ -1,5 +1,6 @@
 -- Each source has one verdict: it writes, it breaks a rule, or it isn't built.
-use Rattle.std.proofs.Common.{◌≡◌, ◌⊎◌, inl, inr, ℕ, ◌+◌, ◌≤◌, Bool, true, false, List, [], ◌∷◌, length, Option, Some, None, refl, sym, ap, subst, ◌∙◌, arith}
+use Rattle.std.proofs.Common.{◌≡◌, ◌⊎◌, inl, inr, ℕ, ◌+◌, ◌≤◌, Bool, true, false, List, [], ◌∷◌, length}
+use Rattle.std.proofs.Common.{Option, Some, None, refl, sym, ap, subst, ◌∙◌, arith}
 use Rattle.std.specs.Prelude.{◌&&◌, nat_lt, if◌then◌else◌, is_some}
 use Rattle.std.specs.Global.{Box}
 use Rattle.std.specs.List.{AllByRecursion}
@@ -18,7 +19,8 @@ use Rattle.cpre.specs.Expansion as expansion
 use Rattle.cpre.specs.Line as line
 use Rattle.creader.specs.Source.{EndsOnce}
 use Rattle.cparse.specs.Parsed as parsed
-use Rattle.prucc.specs.Form.{IsLoadable, write_of, halts, is_end, is_main, IsMain, IsMainAlone, BodyWrites, IsProgram, body_departure, unit_departure, units_departure, departure}
+use Rattle.prucc.specs.Form.{IsLoadable, write_of, halts, is_end, is_main, IsMain, IsMainAlone, BodyWrites}
+use Rattle.prucc.specs.Form.{IsProgram, body_departure, unit_departure, units_departure, departure}
 use Rattle.prucc.specs.Source.{IsExpandedTo, IsTreeOf, Writes, IsSourceFault, InTokens, InExpansion, InGrammar, IsUnbuilt}
 use Rattle.prucc.proofs.BareForm.{same-program, same-departure}
 use Rattle.prucc.proofs.Tokens.{written_ends, ends_once}
@@ -37,7 +39,8 @@ IsWrite w room next = (k : ℕ) × (w ≡ Some k) × (room ≡ true) × (next �
 
 -- an item at which the body doesn't depart is a write, or the halt at its end
 by-item : (w : Option ℕ) (room halt last : Bool) (next : Option Span) (span : Span)
-    → (if is_some w && room then next else (if halt && last then None else Some span)) ≡ None → IsWrite w room next ⊎ ((halt ≡ true) × (last ≡ true))
+    → (if is_some w && room then next else (if halt && last then None else Some span)) ≡ None
+    → IsWrite w room next ⊎ ((halt ≡ true) × (last ≡ true))
 by-item (Some k) true halt last next span e = inl (k, refl, refl, e)
 by-item (Some k) false true true next span e = inr (refl, refl)
 by-item (Some k) false true false next span e = absurd cc
@@ -46,7 +49,8 @@ by-item None room true true next span e = inr (refl, refl)
 by-item None room true false next span e = absurd cc
 by-item None room false last next span e = absurd cc
 
-body-written : (end : Span) (written : ℕ) (body : items.Items) → written ≤ 2047 → body_departure end written body ≡ None → IsWritten written body
+body-written : (end : Span) (written : ℕ) (body : items.Items) → written ≤ 2047 → body_departure end written body ≡ None
+    → IsWritten written body
 unfolding body_departure BodyWrites
 body-written end written items.End few e = absurd cc
 body-written end written (items.Object' _ _ _) few e = absurd cc
@@ -64,7 +68,8 @@ body-written end written (items.Statement' _ m s _ rest) few e =
       | inr halt ↦ record { numbers = []; writes = halt; count = omega (arith, few); each = tt }
     ]
 
-kind-written : (end begin : Span) (k : UnitKind) → unit_departure end begin k units.End ≡ None → (body : items.Items) × IsMain k body × (body_departure end 0 body ≡ None)
+kind-written : (end begin : Span) (k : UnitKind) → unit_departure end begin k units.End ≡ None
+    → (body : items.Items) × IsMain k body × (body_departure end 0 body ≡ None)
 kind-written end begin (kind.Function head body) e = by (is_main head) refl e
   where
     by : (b : Bool) → is_main head ≡ b → (if b then body_departure end 0 body else Some begin) ≡ None
@@ -89,7 +94,8 @@ second-departs end begin kind.Register v q rest e = cc
 second-departs end begin (kind.Object _) v q rest e = cc
 second-departs end begin (kind.Prototype _) v q rest e = cc
 
-alone : (end : Span) (all : units.Units) → units_departure end all ≡ None → (body : items.Items) × IsMainAlone all body × (body_departure end 0 body ≡ None)
+alone : (end : Span) (all : units.Units) → units_departure end all ≡ None
+    → (body : items.Items) × IsMainAlone all body × (body_departure end 0 body ≡ None)
 unfolding IsMainAlone units_departure
 alone end units.End e = absurd cc
 alone end (units.More' u _ units.End) e = kind-written end u.value.mark.span u.value.kind e
@@ -126,7 +132,8 @@ by-form source tree of-source None e =
     inl (program.0, record { tree = tree; of_source = of-source; program = program.1 })
 
 by-grammar : (source : List ℕ) (tokens : List Token) → IsExpandedTo source tokens
-    → ((tree : Contents) × parsed.Yields tree tokens) ⊎ ((span : Span) × (cause : Cause) × parsed.IsFault tokens span cause) → Verdict source
+    → ((tree : Contents) × parsed.Yields tree tokens) ⊎ ((span : Span) × (cause : Cause) × parsed.IsFault tokens span cause)
+    → Verdict source
 by-grammar source tokens expanded (inl read) =
     by-form source read.0 (record { tokens = tokens; expanded = expanded; yields = read.1 }) (departure read.0) refl
 by-grammar source tokens expanded (inr fault) = inr (inl (fault.0, fault.1, InGrammar tokens expanded fault.2))
@@ -146,7 +153,8 @@ module _
   by-expansion source written spelled (inr fault) = inr (inl (fault.0, fault.1, InExpansion written spelled fault.2))
 
   pub verdict : (source : List ℕ)
-      → ((tokens : List Token) × text.Spells tokens source) ⊎ ((span : Span) × (cause : Cause) × text.IsFault source span cause) → Verdict source
+      → ((tokens : List Token) × text.Spells tokens source) ⊎ ((span : Span) × (cause : Cause) × text.IsFault source span cause)
+      → Verdict source
   verdict source (inl read) = by-expansion source read.0 read.1 (expansion_or_fault read.0)
   verdict source (inr fault) = inr (inl (fault.0, fault.1, InTokens fault.2))
 
@@ -191,7 +199,8 @@ pub record IsOnce (source : List ℕ) : Type 0 where
   pub one_break : OneBreak
   pub no_tree : NoTree
 
-pub once : (source : List ℕ) → OneList → OneFault → NoList → OneExpansion → OneMisuse → NoExpansion → OneTree → OneBreak → NoTree → IsOnce source
+pub once : (source : List ℕ) → OneList → OneFault → NoList → OneExpansion → OneMisuse → NoExpansion → OneTree → OneBreak → NoTree
+    → IsOnce source
 once source a b c d e f g h i =
     record {
       one_list = a source;
@@ -211,7 +220,8 @@ module _ (source : List ℕ) (only : IsOnce source) where
       let written = only.one_list first.written second.written first.spelled second.spelled in
       only.one_expansion second.written ts us (subst (λ ws. expansion.Expands ws ts) written first.expands) second.expands
 
-  unexpanded : (ts written : List Token) (s : Span) (c : Cause) → IsExpandedTo source ts → text.Spells written source → expansion.IsFault written s c → ⊥
+  unexpanded : (ts written : List Token) (s : Span) (c : Cause) → IsExpandedTo source ts → text.Spells written source
+      → expansion.IsFault written s c → ⊥
   unexpanded ts written s c expanded spelled fault =
       let same = only.one_list expanded.written written expanded.spelled spelled in
       only.no_expansion written ts s c (subst (λ ws. expansion.Expands ws ts) same expanded.expands) fault
@@ -239,7 +249,8 @@ module _ (source : List ℕ) (only : IsOnce source) where
   pub one-writes : (ks ls : List ℕ) → Writes source ks → Writes source ls → ks ≡ ls
   one-writes ks ls first second =
       same_program second.tree.units ks ls
-      (same-program first.tree.units second.tree.units ks (same-tree first.tree second.tree first.of_source second.of_source).units first.program) second.program
+      (same-program first.tree.units second.tree.units ks (same-tree first.tree second.tree first.of_source second.of_source).units
+      first.program) second.program
 
   pub one-fault : (s t : Span) (c d : Cause) → IsSourceFault source s c → IsSourceFault source t d → (s ≡ t) × (c ≡ d)
   one-fault s t c d (InTokens a) (InTokens b) = only.one_fault s t c d a b
@@ -248,22 +259,26 @@ module _ (source : List ℕ) (only : IsOnce source) where
   one-fault s t c d (InExpansion written spelled a) (InTokens b) = absurd (only.no_list written t d spelled b)
   one-fault s t c d (InExpansion ts first a) (InExpansion us second b) =
       only.one_misuse us s t c d (subst (λ xs. expansion.IsFault xs s c) (only.one_list ts us first second) a) b
-  one-fault s t c d (InExpansion written spelled a) (InGrammar tokens expanded b) = absurd (unexpanded tokens written s c expanded spelled a)
+  one-fault s t c d (InExpansion written spelled a) (InGrammar tokens expanded b) =
+      absurd (unexpanded tokens written s c expanded spelled a)
   one-fault s t c d (InGrammar tokens expanded a) (InTokens b) = absurd (only.no_list expanded.written t d expanded.spelled b)
-  one-fault s t c d (InGrammar tokens expanded a) (InExpansion written spelled b) = absurd (unexpanded tokens written t d expanded spelled b)
+  one-fault s t c d (InGrammar tokens expanded a) (InExpansion written spelled b) =
+      absurd (unexpanded tokens written t d expanded spelled b)
   one-fault s t c d (InGrammar ts first a) (InGrammar us second b) =
       only.one_break us s t c d (subst (λ xs. parsed.IsFault xs s c) (same-tokens ts us first second) a) b
 
   pub one-place : (s t : Span) → IsUnbuilt source s → IsUnbuilt source t → s ≡ t
   one-place s t first second =
-      let same : Some s ≡ Some t = sym first.departs ∙ same-place first.tree second.tree first.of_source second.of_source ∙ second.departs in cc
+      let same : Some s ≡ Some t = sym first.departs ∙ same-place first.tree second.tree first.of_source second.of_source
+      ∙ second.departs in cc
 
   pub writes-unbroken : (ks : List ℕ) (s : Span) (c : Cause) → Writes source ks → IsSourceFault source s c → ⊥
   writes-unbroken ks s c writes fault = tree-unbroken writes.tree s c writes.of_source fault
 
   pub writes-built : (ks : List ℕ) (s : Span) → Writes source ks → IsUnbuilt source s → ⊥
   writes-built ks s writes unbuilt =
-      let none = sym unbuilt.departs ∙ same-place unbuilt.tree writes.tree unbuilt.of_source writes.of_source ∙ program_stays writes.tree ks writes.program in cc
+      let none = sym unbuilt.departs ∙ same-place unbuilt.tree writes.tree unbuilt.of_source writes.of_source
+      ∙ program_stays writes.tree ks writes.program in cc
 
   pub broken-built : (s t : Span) (c : Cause) → IsSourceFault source s c → IsUnbuilt source t → ⊥
   broken-built s t c fault unbuilt = tree-unbroken unbuilt.tree s c unbuilt.of_source fault

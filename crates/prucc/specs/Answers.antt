@@ -36,19 +36,23 @@ first_place = record { line = 1; column = 1 }
 pub data NotBuiltAt (r : Asked) (script zero one name : List ℕ) (span : Span) : Type 0 where
   OfScript : (some : script ≢ []) (file : name ≡ r.script) (place : span ≡ first_place) → NotBuiltAt r script zero one name span
   OfZero : (no_script : script ≡ []) (unbuilt : IsUnbuilt zero span) (file : name ≡ r.zero) → NotBuiltAt r script zero one name span
-  OfOne : (no_script : script ≡ []) (ks : List ℕ) (writes_zero : Writes zero ks) (unbuilt : IsUnbuilt one span) (file : name ≡ r.one) → NotBuiltAt r script zero one name span
+  OfOne : (no_script : script ≡ []) (ks : List ℕ) (writes_zero : Writes zero ks) (unbuilt : IsUnbuilt one span)
+      (file : name ≡ r.one) → NotBuiltAt r script zero one name span
 
 -- The first of the two sources that breaks a rule, by its core, with the rule and the place. The script is empty, and the source of
 -- core 1 is judged behind a source of core 0 that is built.
 pub data BrokenAt (script zero one : List ℕ) (core : ℕ) (span : Span) (cause : Cause) : Type 0 where
   InZero : (no_script : script ≡ []) (is_zero : core ≡ 0) (fault : IsSourceFault zero span cause) → BrokenAt script zero one core span cause
-  InOne : (no_script : script ≡ []) (ks : List ℕ) (writes_zero : Writes zero ks) (is_one : core ≡ 1) (fault : IsSourceFault one span cause) → BrokenAt script zero one core span cause
+  InOne : (no_script : script ≡ []) (ks : List ℕ) (writes_zero : Writes zero ks) (is_one : core ≡ 1)
+      (fault : IsSourceFault one span cause) → BrokenAt script zero one core span cause
 
 -- the first file, in the order in which they are read, that has more than its most bytes
 pub data LongAt (r : Asked) (script zero one name : List ℕ) (max : ℕ) : Type 0 where
   LongZero : (file : name ≡ r.zero) (most : max ≡ 65536) (long : 65536 < length zero) → LongAt r script zero one name max
-  LongOne : (zero_within : length zero ≤ 65536) (file : name ≡ r.one) (most : max ≡ 65536) (long : 65536 < length one) → LongAt r script zero one name max
-  LongScript : (zero_within : length zero ≤ 65536) (one_within : length one ≤ 65536) (file : name ≡ r.script) (most : max ≡ 1048576) (long : 1048576 < length script) → LongAt r script zero one name max
+  LongOne : (zero_within : length zero ≤ 65536) (file : name ≡ r.one) (most : max ≡ 65536) (long : 65536 < length one)
+      → LongAt r script zero one name max
+  LongScript : (zero_within : length zero ≤ 65536) (one_within : length one ≤ 65536) (file : name ≡ r.script) (most : max ≡ 1048576)
+      (long : 1048576 < length script) → LongAt r script zero one name max
 
 -- the same of the files that were held
 abbrev pub IsBuiltFrom : Held → Asked → List ℕ → List ℕ → Type 0
@@ -58,10 +62,12 @@ abbrev pub AreWithinFrom : Held → Asked → Type 0
 AreWithinFrom before r = AreWithin (content before r.script) (content before r.zero) (content before r.one)
 
 abbrev pub IsNotBuiltFrom : Held → Asked → List ℕ → Span → Type 0
-IsNotBuiltFrom before r name span = AreWithinFrom before r × NotBuiltAt r (content before r.script) (content before r.zero) (content before r.one) name span
+IsNotBuiltFrom before r name span = AreWithinFrom before r × NotBuiltAt r (content before r.script) (content before r.zero)
+    (content before r.one) name span
 
 abbrev pub IsBrokenFrom : Held → Asked → ℕ → Span → Cause → Type 0
-IsBrokenFrom before r core span cause = AreWithinFrom before r × BrokenAt (content before r.script) (content before r.zero) (content before r.one) core span cause
+IsBrokenFrom before r core span cause = AreWithinFrom before r
+    × BrokenAt (content before r.script) (content before r.zero) (content before r.one) core span cause
 
 abbrev pub IsLongFrom : Held → Asked → List ℕ → ℕ → Type 0
 IsLongFrom before r name max = LongAt r (content before r.script) (content before r.zero) (content before r.one) name max

@@ -1,6 +1,7 @@
 -- The one form of tree that is compiled so far: a function `void main(void)` of writes of constants to the output register, with the
 -- halt at its end; and where a tree departs from it.
-use Rattle.std.specs.Prelude.{◌≡◌, ℕ, ◌+◌, ◌^◌, ◌<◌, ◌≤◌, Bool, true, false, ◌&&◌, not, nat_lt, if◌then◌else◌, List, [], ◌∷◌, length, codes, Option, Some, None, is_some}
+use Rattle.std.specs.Prelude.{◌≡◌, ℕ, ◌+◌, ◌^◌, ◌<◌, ◌≤◌, Bool, true, false, ◌&&◌, not, nat_lt, if◌then◌else◌}
+use Rattle.std.specs.Prelude.{List, [], ◌∷◌, length, codes, Option, Some, None, is_some}
 use Rattle.std.specs.List.{AllByRecursion}
 use Rattle.std.specs.Str.{bytes_eq}
 use Rattle.csyn.specs.declared.span.Span.{Span}
@@ -50,7 +51,8 @@ takes_void _ = false
 
 -- `void main(void)`
 unfoldable pub is_main : Head → Bool
-is_main head = is_plain_void head.specifiers && (has_no_pointers head.pointers && (bytes_eq head.name (codes "main") && takes_void head.parameters))
+is_main head = is_plain_void head.specifiers && (has_no_pointers head.pointers &&
+    (bytes_eq head.name (codes "main") && takes_void head.parameters))
 
 -- ---- the items
 

@@ -11,12 +11,14 @@ use Rattle.prucc.specs.declared.top.Output.{Output}
 use Rattle.prucc.specs.Source.{IsSourceFault, IsUnbuilt}
 use Rattle.prucc.specs.Summary.{summary_text}
 use Rattle.prucc.specs.Request.{Asked, Asks, events_name}
-use Rattle.prucc.specs.Answers.{AskFor, IsBuilt, NotBuiltAt, BrokenAt, IsNotBuiltFrom, IsBrokenFrom, IsLongFrom, IsCore, events_file, IsUntouched, FailedFile, FailedSink, IsInput, IsMost, sink_name}
+use Rattle.prucc.specs.Answers.{AskFor, IsBuilt, NotBuiltAt, BrokenAt, IsNotBuiltFrom, IsBrokenFrom, IsLongFrom, IsCore}
+use Rattle.prucc.specs.Answers.{events_file, IsUntouched, FailedFile, FailedSink, IsInput, IsMost, sink_name}
 
 -- why a read fails: the files failed, or the file has more than its most bytes
 abbrev pub ReadFails : List ℕ → ℕ → Option Held → Option Held → ℕ → ℕ → Status → Type 0
 ReadFails name most held now before after (ReadFault file) = (file ≡ name) × Rose before after
-ReadFails name most held now before after (TooLong file max) = (file ≡ name) × (max ≡ most) × Tells held now (λ held _. most < length (content held name))
+ReadFails name most held now before after (TooLong file max) =
+    (file ≡ name) × (max ≡ most) × Tells held now (λ held _. most < length (content held name))
 ReadFails name most held now before after NoMemory = Unit {0}
 ReadFails name most held now before after other = ⊥
 
@@ -83,13 +85,17 @@ WriteFails name bytes held now faults after other = ⊥
 
 -- why lines aren't taken: the sink failed, and has taken a front of them
 abbrev pub PutFails : List ℕ → List ℕ → Option (List ℕ) → Option (List ℕ) → ℕ → ℕ → Status → Type 0
-PutFails name text taken later faults after (WriteFault file) = (file ≡ name) × Rose faults after × Tells taken later (λ old new. AppendsFront old text new)
+PutFails name text taken later faults after (WriteFault file) =
+    (file ≡ name) × Rose faults after × Tells taken later (λ old new. AppendsFront old text new)
 PutFails name text taken later faults after other = ⊥
 
 -- the write of the events failed, or the sink
-pub data OutputFails (r : Asked) (file : List ℕ) (held now : Option Held) (faults after : ℕ) (taken later : Option (List ℕ)) (sink_faults sink_after : ℕ) : Type 0 where
-  AtFile : (name : file ≡ events_name r) (rose : Rose faults after) (left : Tells held now (FailedFile r)) (untouched : IsUntouched taken later) → OutputFails r file held now faults after taken later sink_faults sink_after
-  AtSink : (name : file ≡ sink_name) (rose : Rose sink_faults sink_after) (left : Tells held now (FailedSink r taken later)) → OutputFails r file held now faults after taken later sink_faults sink_after
+pub data OutputFails (r : Asked) (file : List ℕ) (held now : Option Held) (faults after : ℕ) (taken later : Option (List ℕ))
+    (sink_faults sink_after : ℕ) : Type 0 where
+  AtFile : (name : file ≡ events_name r) (rose : Rose faults after) (left : Tells held now (FailedFile r))
+      (untouched : IsUntouched taken later) → OutputFails r file held now faults after taken later sink_faults sink_after
+  AtSink : (name : file ≡ sink_name) (rose : Rose sink_faults sink_after) (left : Tells held now (FailedSink r taken later))
+      → OutputFails r file held now faults after taken later sink_faults sink_after
 
 -- neither files nor sink have changed
 pub record IsSame (held now : Option Held) (taken later : Option (List ℕ)) : Type 0 where
@@ -98,14 +104,17 @@ pub record IsSame (held now : Option Held) (taken later : Option (List ℕ)) : T
 
 -- why a run isn't done
 abbrev pub RunFails : List (List ℕ) → Option Held → Option Held → ℕ → ℕ → Option (List ℕ) → Option (List ℕ) → ℕ → ℕ → Status → Type 0
-RunFails words held now faults after taken later sink_faults sink_after Words = ((r : Asked) → Asks words r → ⊥) × IsSame held now taken later
-RunFails words held now faults after taken later sink_faults sink_after (ReadFault file) = AskFor words (λ r. IsInput r file × Rose faults after) × IsSame held now taken later
+RunFails words held now faults after taken later sink_faults sink_after Words =
+    ((r : Asked) → Asks words r → ⊥) × IsSame held now taken later
+RunFails words held now faults after taken later sink_faults sink_after (ReadFault file) =
+    AskFor words (λ r. IsInput r file × Rose faults after) × IsSame held now taken later
 RunFails words held now faults after taken later sink_faults sink_after (TooLong file max) =
     AskFor words (λ r. IsMost r file max × Tells held now (λ before _. IsLongFrom before r file max)) × IsSame held now taken later
 RunFails words held now faults after taken later sink_faults sink_after (Source core span cause) =
     AskFor words (λ r. IsCore core × Tells held now (λ before _. IsBrokenFrom before r core span cause)) × IsSame held now taken later
 RunFails words held now faults after taken later sink_faults sink_after (NotBuilt name span) =
     AskFor words (λ r. Tells held now (λ before _. IsNotBuiltFrom before r name span)) × IsSame held now taken later
-RunFails words held now faults after taken later sink_faults sink_after (WriteFault file) = AskFor words (λ r. OutputFails r file held now faults after taken later sink_faults sink_after)
+RunFails words held now faults after taken later sink_faults sink_after (WriteFault file) =
+    AskFor words (λ r. OutputFails r file held now faults after taken later sink_faults sink_after)
 RunFails words held now faults after taken later sink_faults sink_after NoMemory = IsSame held now taken later
 RunFails words held now faults after taken later sink_faults sink_after Done = ⊥

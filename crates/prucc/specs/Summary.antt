@@ -14,7 +14,9 @@ stop_text Stuck = codes "stuck"
 -- A core's numbers of events and of instructions, and how it stands. Nothing is spilled so far, and no source has an undefined step.
 abbrev pub core_line : ℕ → ℕ → ℕ → Stop → List ℕ
 core_line core events instructions stop =
-    line (codes "core " ++ (decimal core ++ (codes " events " ++ (decimal events ++ (codes " instructions " ++ (decimal instructions ++ (codes " spills 0 " ++ (stop_text stop ++ codes " clean"))))))))
+    line (codes "core " ++ (decimal core ++ (codes " events "
+    ++ (decimal events ++ (codes " instructions " ++ (decimal instructions
+    ++ (codes " spills 0 " ++ (stop_text stop ++ codes " clean"))))))))
 
 -- of a core whose source writes these numbers, after n cycles: an event is an instruction
 abbrev pub summary_line : ℕ → ℕ → List ℕ → List ℕ

@@ -11,8 +11,10 @@ ghost use Rattle.prucc.specs.Form.{IsLoadable};
 ghost use Rattle.prucc.specs.Source.{Writes};
 ghost use Rattle.prucc.specs.Run.{ShowsMeaning};
 ghost use Rattle.prucc.specs.Request.{Asked, Asks, texts, asked};
-ghost use Rattle.prucc.specs.Answers.{AskFor, HasTaken, AreWithin, IsUntouched, Finishes, IsNotBuiltFrom, IsBrokenFrom, IsLongFrom, IsCore, IsInput, IsMost, IsBeforeWrites, IsBeforeSink};
-ghost use Rattle.prucc.specs.RunAnswer.{ReadFails, Holds, InputFails, HoldsInputs, NotBuiltIn, SourceFails, Builds, BuildFails, HoldsFile, WriteFails, PutFails, OutputFails, RunFails};
+ghost use Rattle.prucc.specs.Answers.{AskFor, HasTaken, AreWithin, IsUntouched, Finishes, IsNotBuiltFrom, IsBrokenFrom};
+ghost use Rattle.prucc.specs.Answers.{IsLongFrom, IsCore, IsInput, IsMost, IsBeforeWrites, IsBeforeSink};
+ghost use Rattle.prucc.specs.RunAnswer.{ReadFails, Holds, InputFails, HoldsInputs, NotBuiltIn, SourceFails, Builds};
+ghost use Rattle.prucc.specs.RunAnswer.{BuildFails, HoldsFile, WriteFails, PutFails, OutputFails, RunFails};
 
 use crate::code::words_of;
 use crate::name::Name;
@@ -77,7 +79,8 @@ fn read_inputs<F: Files>(alloc: Global, files: &mut F, request: &Request) -> Res
     ensures inputs { IfOk result (λ inputs. Tells (F.told files.old) (F.told files.new) (HoldsInputs (asked request.now) inputs)) }
     ensures within { IfOk result (λ inputs. AreWithin inputs.script.items inputs.zero.items inputs.one.items) }
     ensures same { Tells (F.told files.old) (F.told files.new) IsSameFiles }
-    ensures err { IfErr result (InputFails (asked request.now) (F.told files.old) (F.told files.new) (F.faults files.old) (F.faults files.new)) }
+    ensures err { IfErr result (InputFails (asked request.now) (F.told files.old) (F.told files.new) (F.faults files.old)
+        (F.faults files.new)) }
     ensures grows { F.faults files.old ≤ F.faults files.new }
 {
     let zero = read_file(alloc, files, &request.zero, MAX_SOURCE)?;
@@ -152,7 +155,8 @@ fn write_file<F: Files>(files: &mut F, name: Name, bytes: &[u8]) -> Result<(), S
 // The sink is told by a name of its own.
 fn put_lines<S: Sink>(out: &mut S, name: Name, text: &String) -> Result<(), Status>
     ensures ok { OnOk result (HasTaken (string_bytes text.now) (S.told out.old) (S.told out.new)) }
-    ensures err { IfErr result (PutFails name (string_bytes text.now) (S.told out.old) (S.told out.new) (S.faults out.old) (S.faults out.new)) }
+    ensures err { IfErr result (PutFails name (string_bytes text.now) (S.told out.old) (S.told out.new) (S.faults out.old)
+        (S.faults out.new)) }
 {
     match out.put(text.as_bytes()) {
         Ok(()) => Ok(()),

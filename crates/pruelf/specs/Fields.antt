@@ -1,6 +1,7 @@
 -- Reading from left to right: a field is a number and the bytes behind it, or the first fault. `end` is the length of the whole
 -- file, of which the bytes are the last.
-use Rattle.std.specs.Prelude.{◌≡◌, ℕ, zero, suc, ◌+◌, ◌-◌, ◌%◌, ◌==◌, ◌&&◌, nat_lt, nat_le, if◌then◌else◌, Bool, List, [], ◌∷◌, length, take, drop, Option, Some, None, Result, Ok, Err}
+use Rattle.std.specs.Prelude.{◌≡◌, ℕ, zero, suc, ◌+◌, ◌-◌, ◌%◌, ◌==◌, ◌&&◌, nat_lt, nat_le, if◌then◌else◌, Bool, List}
+use Rattle.std.specs.Prelude.{[], ◌∷◌, length, take, drop, Option, Some, None, Result, Ok, Err}
 use Rattle.std.specs.Int.{Width, w8, w16, w32, byte_len, from_le_bytes}
 use Rattle.prunum.specs.declared.width.Width.{Width as Bytes}
 use Rattle.prunum.specs.declared.width.Width.TheVariants.{B1, B2, B4}
@@ -76,7 +77,8 @@ abbrev pub within_in : LoadCause → Span → ℕ → List ℕ → Result (ℕ �
 within_in cause span end bytes = judged_in cause w32 (allows span) end bytes
 
 -- So many things, one behind the other. Each is read knowing how many are left with it, and the one before it.
-unfoldable pub many_in : {A : Type 0} → (ℕ → Option A → List ℕ → Result (A × List ℕ) LoadFault) → ℕ → Option A → List ℕ → Result (List A × List ℕ) LoadFault
+unfoldable pub many_in : {A : Type 0} → (ℕ → Option A → List ℕ → Result (A × List ℕ) LoadFault) → ℕ → Option A → List ℕ
+    → Result (List A × List ℕ) LoadFault
 many_in one zero before bytes = Ok ([], bytes)
 many_in one (suc left) before bytes = do
   first ← one (suc left) before bytes

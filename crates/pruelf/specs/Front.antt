@@ -9,7 +9,9 @@ use Rattle.pruelf.specs.declared.plan.Plan.{Plan}
 use Rattle.pruelf.specs.declared.segments.LoadSizes.{LoadSizes}
 use Rattle.pruelf.specs.declared.span.Span.{Span}
 use Rattle.pruelf.specs.Fields.{◌>>=◌, bytes_in, fixed_in, within_in, wrong, only}
-use Rattle.pruelf.specs.Layout.{sections_span, code_span, data_at_span, init_span, memory_span, notes_span, table_span, symbols_span, names_span, fields_before, fields_behind, code_form, data_form, zero_form, notes_form, table_form, symbols_form, names_form, section_names_form}
+use Rattle.pruelf.specs.Layout.{sections_span, code_span, data_at_span, init_span, memory_span, notes_span, table_span}
+use Rattle.pruelf.specs.Layout.{symbols_span, names_span, fields_before, fields_behind, code_form, data_form, zero_form, notes_form}
+use Rattle.pruelf.specs.Layout.{table_form, symbols_form, names_form, section_names_form}
 
 -- ---- the header
 
@@ -70,7 +72,17 @@ section_in form span end bytes = do
 -- what is known before the section headers are read
 abbrev pub begun : ℕ → LoadSizes → Plan
 begun sections_at s =
-    record { sections_at = sections_at; code = s.code; data_at = s.data_at; init = s.init; memory = s.memory; notes = 0; table = 0; symbols = 0; names = 0 }
+    record {
+      sections_at = sections_at;
+      code = s.code;
+      data_at = s.data_at;
+      init = s.init;
+      memory = s.memory;
+      notes = 0;
+      table = 0;
+      symbols = 0;
+      names = 0;
+    }
 
 -- the null section, and the sections that are loaded
 unfoldable pub loaded_in : Plan → ℕ → List ℕ → Result (List ℕ) LoadFault

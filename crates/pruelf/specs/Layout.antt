@@ -37,12 +37,23 @@ section_names_offset p = names_offset p + p.names + padding p.names
 abbrev pub section_names : List ℕ
 section_names =
     0 ∷ flat_map (λ name. name ++ 0 ∷ [])
-    (codes ".text" ∷ codes ".data" ∷ codes ".bss" ∷ codes ".pru.notes" ∷ codes ".resource_table" ∷ codes ".symtab" ∷ codes ".strtab" ∷ codes ".shstrtab" ∷ [])
+    (codes ".text" ∷ codes ".data" ∷ codes ".bss" ∷ codes ".pru.notes" ∷ codes ".resource_table" ∷ codes ".symtab" ∷ codes ".strtab"
+    ∷ codes ".shstrtab" ∷ [])
 
 -- a section header but for its size: where its name begins, its type and flags, where it stands in memory and in the file
 abbrev pub part : ℕ → ℕ → ℕ → ℕ → ℕ → Form
 part name kind flags address offset =
-    record { name = name; kind = kind; flags = flags; address = address; offset = offset; link = 0; info = 0; alignment = 4; entry_size = 0 }
+    record {
+      name = name;
+      kind = kind;
+      flags = flags;
+      address = address;
+      offset = offset;
+      link = 0;
+      info = 0;
+      alignment = 4;
+      entry_size = 0;
+    }
 
 -- the fields before the size, and those behind it
 abbrev pub fields_before : Form → List ℕ
@@ -73,11 +84,31 @@ symbols_form p =
     record { name = 45; kind = 2; flags = 0; address = 0; offset = symbols_offset p; link = 7; info = 1; alignment = 4; entry_size = 16 }
 
 abbrev pub names_form : Plan → Form
-names_form p = record { name = 53; kind = 3; flags = 0; address = 0; offset = names_offset p; link = 0; info = 0; alignment = 1; entry_size = 0 }
+names_form p = record {
+  name = 53;
+  kind = 3;
+  flags = 0;
+  address = 0;
+  offset = names_offset p;
+  link = 0;
+  info = 0;
+  alignment = 1;
+  entry_size = 0;
+}
 
 abbrev pub section_names_form : Plan → Form
 section_names_form p =
-    record { name = 61; kind = 3; flags = 0; address = 0; offset = section_names_offset p; link = 0; info = 0; alignment = 1; entry_size = 0 }
+    record {
+      name = 61;
+      kind = 3;
+      flags = 0;
+      address = 0;
+      offset = section_names_offset p;
+      link = 0;
+      info = 0;
+      alignment = 1;
+      entry_size = 0;
+    }
 
 -- ---- what numbers may stand where
 

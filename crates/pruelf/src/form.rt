@@ -68,7 +68,17 @@ fn part(name: u64, kind: u64, flags: u64, address: u64, offset: u64) -> Form
 }
 
 fn strings(name: u64, offset: u64) -> Form
-    ensures { result ≡ record { name = name; kind = 3; flags = 0; address = 0; offset = offset; link = 0; info = 0; alignment = 1; entry_size = 0 } }
+    ensures { result ≡ record {
+      name = name;
+      kind = 3;
+      flags = 0;
+      address = 0;
+      offset = offset;
+      link = 0;
+      info = 0;
+      alignment = 1;
+      entry_size = 0;
+    } }
 {
     Form {
         alignment: 1,

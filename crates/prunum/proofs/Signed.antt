@@ -17,16 +17,22 @@ same_less : (v m : ℕ) → v % m < m → IsCongruent m (pos (v % m) -ℤ pos m)
 same_less v m h = (v / m + 1, 0, grind (arith, ints, mod-add-div v m))
 
 -- what is left below half of m stays, and from there on it is m less: so it lies from -h to h - 1
-by_half : (v m h : ℕ) → m ≡ h + h → 0 < m → (b : Bool) → nat_lt (v % m) h ≡ b → (neg_ℤ (pos h) ≤ℤ cond b (pos (v % m)) (pos (v % m) -ℤ pos m)) × (cond b (pos (v % m)) (pos (v % m) -ℤ pos m) <ℤ pos h) × IsCongruent m (cond b (pos (v % m)) (pos (v % m) -ℤ pos m)) (pos v)
+by_half : (v m h : ℕ) → m ≡ h + h → 0 < m → (b : Bool) → nat_lt (v % m) h ≡ b
+    → (neg_ℤ (pos h) ≤ℤ cond b (pos (v % m)) (pos (v % m) -ℤ pos m)) × (cond b (pos (v % m)) (pos (v % m) -ℤ pos m) <ℤ pos h)
+    × IsCongruent m (cond b (pos (v % m)) (pos (v % m) -ℤ pos m)) (pos v)
 by_half v m h e p true t = (grind (arith, ints, nat_tests), grind (arith, ints, nat_tests, t), same_left v m)
-by_half v m h e p false t = let r : v % m < m = mod-lt v p in (grind (arith, ints, nat_tests, t), grind (arith, ints, nat_tests, t), same_less v m r)
+by_half v m h e p false t = let r : v % m < m = mod-lt v p in
+    (grind (arith, ints, nat_tests, t), grind (arith, ints, nat_tests, t), same_less v m r)
 
 -- the bits at a width mean what the definition of two's complement says
 sext_is_signed : (w : Width) (v : ℕ) → IsSignedOf (bit_count w) v (sext w v)
 unfolding sext
-sext_is_signed B1 v = let f = by_half v 256 128 refl (lit< tt) (nat_lt (v % 256) 128) refl in record { least = f.0; greatest = f.1; same = f.2 }
-sext_is_signed B2 v = let f = by_half v (2 ^ 16) (2 ^ 15) refl (lit< tt) (nat_lt (v % 2 ^ 16) (2 ^ 15)) refl in record { least = f.0; greatest = f.1; same = f.2 }
-sext_is_signed B4 v = let f = by_half v (2 ^ 32) (2 ^ 31) refl (lit< tt) (nat_lt (v % 2 ^ 32) (2 ^ 31)) refl in record { least = f.0; greatest = f.1; same = f.2 }
+sext_is_signed B1 v = let f = by_half v 256 128 refl (lit< tt) (nat_lt (v % 256) 128) refl in
+    record { least = f.0; greatest = f.1; same = f.2 }
+sext_is_signed B2 v = let f = by_half v (2 ^ 16) (2 ^ 15) refl (lit< tt) (nat_lt (v % 2 ^ 16) (2 ^ 15)) refl in
+    record { least = f.0; greatest = f.1; same = f.2 }
+sext_is_signed B4 v = let f = by_half v (2 ^ 32) (2 ^ 31) refl (lit< tt) (nat_lt (v % 2 ^ 32) (2 ^ 31)) refl in
+    record { least = f.0; greatest = f.1; same = f.2 }
 
 pub IsSignedOf-at : (w : Width) (v : ℕ) (z : ℤ) → z ≡ sext w v → IsSignedOf (bit_count w) v z
 IsSignedOf-at w v z e = subst (IsSignedOf (bit_count w) v) (sym e) (sext_is_signed w v)

@@ -1,6 +1,7 @@
 -- Numbers of one, two and four bytes, in whole-number arithmetic. The sizes are those of the PRU C compiler guide
 -- (SPRUHV7). What division by 0 and shift counts of 32 and more give is this project's own choice.
-use Rattle.std.specs.Prelude.{◌≡◌, ◌==◌, ℕ, ◌-◌, ◌*◌, ◌/◌, ◌%◌, ◌^◌, ◌<◌, nat_lt, if◌then◌else◌, ℤ, pos, neg_ℤ, ◌+ℤ◌, ◌-ℤ◌, ◌*ℤ◌, ◌≤ℤ◌, ◌<ℤ◌, unsigned_abs, int_div, int_rem}
+use Rattle.std.specs.Prelude.{◌≡◌, ◌==◌, ℕ, ◌-◌, ◌*◌, ◌/◌, ◌%◌, ◌^◌, ◌<◌, nat_lt, if◌then◌else◌, ℤ, pos, neg_ℤ}
+use Rattle.std.specs.Prelude.{◌+ℤ◌, ◌-ℤ◌, ◌*ℤ◌, ◌≤ℤ◌, ◌<ℤ◌, unsigned_abs, int_div, int_rem}
 use Rattle.std.specs.Int.{int_rem_euclid, int_div_euclid}
 use Rattle.prunum.specs.Width.{byte_count}
 use Rattle.prunum.specs.declared.width.Width.{Width}

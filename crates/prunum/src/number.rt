@@ -2,7 +2,8 @@
 
 ghost use Rattle.std.specs.Prelude.{◌≡◌, ◌≢◌, ◌^◌};
 ghost use Rattle.prunum.specs.declared.width.Width.TheVariants.{B4};
-ghost use Rattle.prunum.specs.Number.{bit_count, wrap, wrap_signed, sext, IsSignedOf, quot_u, rem_u, quot_s, rem_s, IsCutDivisionOfBits, shl, shr_u, shr_s};
+ghost use Rattle.prunum.specs.Number.{bit_count, wrap, wrap_signed, sext, IsSignedOf, quot_u, rem_u, quot_s};
+ghost use Rattle.prunum.specs.Number.{rem_s, IsCutDivisionOfBits, shl, shr_u, shr_s};
 
 use crate::width::Width;
 

@@ -1,5 +1,6 @@
 -- A text is cut at the first such byte.
-use Rattle.std.proofs.Common.{◌≡◌, ◌==◌, ℕ, List, [], ◌∷◌, ◌++◌, Bool, true, false, Option, Some, None, refl, sym, ap, ◌∙◌, cond, option_and_then, arith}
+use Rattle.std.proofs.Common.{◌≡◌, ◌==◌, ℕ, List, [], ◌∷◌, ◌++◌, Bool, true, false, Option, Some, None}
+use Rattle.std.proofs.Common.{refl, sym, ap, ◌∙◌, cond, option_and_then, arith}
 use Rattle.std.specs.Prelude.{IsTrue}
 use Rattle.std.proofs.lemmas.Bool.{ne_eqb, eqb-true}
 use Rattle.std.proofs.lemmas.Bool.Decides.{nat_tests}
@@ -9,7 +10,8 @@ use Rattle.prutrace.specs.EventLines.{cut_at}
 pub some_inj : {A : Type 0} {x y : A} → Some x ≡ Some y → x ≡ y
 some_inj e = cc
 
-pub bind_some : {A B : Type 0} (o : Option A) (f : A → Option B) (y : B) → option_and_then f o ≡ Some y → (x : A) × (o ≡ Some x) × (f x ≡ Some y)
+pub bind_some : {A B : Type 0} (o : Option A) (f : A → Option B) (y : B) → option_and_then f o ≡ Some y
+    → (x : A) × (o ≡ Some x) × (f x ≡ Some y)
 bind_some None f y e = absurd (cc)
 bind_some (Some x) f y e = (x, refl, e)
 
@@ -26,11 +28,15 @@ unfolding cut_at
 cut_here byte [] behind l = let e : (byte == byte) ≡ true = grind (arith, nat_tests) in rw e
 cut_here byte (b ∷ front) behind l = rw (ne_eqb b byte l.0, cut_here byte front behind l.1)
 
-pub cut_found : (byte : ℕ) (text front behind : List ℕ) → Lacks byte front → text ≡ front ++ byte ∷ behind → cut_at byte text ≡ Some (front, behind)
+pub cut_found : (byte : ℕ) (text front behind : List ℕ) → Lacks byte front → text ≡ front ++ byte ∷ behind
+    → cut_at byte text ≡ Some (front, behind)
 cut_found byte text front behind l e = ap (cut_at byte) e ∙ cut_here byte front behind l
 
-cut_step : (t : Bool) (byte b : ℕ) (text front behind : List ℕ) → (b == byte) ≡ t → ((f r : List ℕ) → cut_at byte text ≡ Some (f, r) → text ≡ f ++ byte ∷ r)
-    → cond {A = Option (List ℕ × List ℕ)} t (Some ([], text)) (option_and_then (λ parts. Some (b ∷ parts.0, parts.1)) (cut_at byte text)) ≡ Some (front, behind) → b ∷ text ≡ front ++ byte ∷ behind
+cut_step : (t : Bool) (byte b : ℕ) (text front behind : List ℕ) → (b == byte) ≡ t
+    → ((f r : List ℕ) → cut_at byte text ≡ Some (f, r) → text ≡ f ++ byte ∷ r)
+    → cond {A = Option (List ℕ × List ℕ)} t (Some ([], text))
+    (option_and_then (λ parts. Some (b ∷ parts.0, parts.1)) (cut_at byte text)) ≡ Some (front, behind)
+    → b ∷ text ≡ front ++ byte ∷ behind
 cut_step true byte b text front behind is rest e =
     let pair = some_inj e in
     let f : [] ≡ front = ap (λ x. x.0) pair in

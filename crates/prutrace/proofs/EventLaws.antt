@@ -1,5 +1,6 @@
 -- The fields of an event's line are read as they are printed, and what is read is printed so.
-use Rattle.std.proofs.Common.{◌≡◌, ◌≢◌, ℕ, ◌^◌, ◌-◌, ◌<◌, ◌≤◌, Bool, true, false, cond, ◌==◌, nat_le, nat_lt, List, [], ◌∷◌, ◌++◌, length, drop, Option, Some, None, refl, sym, ap, ◌∙◌, arith, codes, option_and_then, subst}
+use Rattle.std.proofs.Common.{◌≡◌, ◌≢◌, ℕ, ◌^◌, ◌-◌, ◌<◌, ◌≤◌, Bool, true, false, cond, ◌==◌, nat_le, nat_lt, List, [], ◌∷◌, ◌++◌}
+use Rattle.std.proofs.Common.{length, drop, Option, Some, None, refl, sym, ap, ◌∙◌, arith, codes, option_and_then, subst}
 use Rattle.std.specs.List.{list_all, AllByRecursion, slice_get}
 use Rattle.std.specs.Prelude.{slice_index, IfSome}
 use Rattle.std.specs.Str.{bytes_eq}
@@ -23,7 +24,8 @@ use Rattle.prutrace.specs.declared.event.Place.{Place}
 use Rattle.prutrace.specs.declared.event.Place.TheVariants.{Reg30, Reg31, Addr, Pad}
 use Rattle.prutrace.specs.Text.{place_text, event_text}
 use Rattle.prutrace.specs.Reading.{PlaceFits, AccessFits, EventFits}
-use Rattle.prutrace.specs.EventLines.{access_fields, event_fields, within, number_in, width_of, width_in, cut_at, pad_of, pad_in, place_in, field, at_end, fitting, access_in, number_alone, kind_in, event_in}
+use Rattle.prutrace.specs.EventLines.{access_fields, event_fields, within, number_in, width_of, width_in, cut_at, pad_of, pad_in}
+use Rattle.prutrace.specs.EventLines.{place_in, field, at_end, fitting, access_in, number_alone, kind_in, event_in}
 use Rattle.prutrace.proofs.Cuts.{some_inj, bind_some, some_bind, cut_found, cut_back}
 
 end_some : {A : Type 0} (rest : List (List ℕ)) (o : Option A) (y : A) → at_end rest o ≡ Some y → (rest ≡ []) × (o ≡ Some y)
@@ -31,7 +33,8 @@ end_some [] o y e = (refl, e)
 end_some (word ∷ rest) o y e = absurd (let h = ap (λ t. cond t o None) (sym (ne_eqb (length (word ∷ rest)) 0 (λ z. omega arith))) ∙ e in cc)
 
 -- where the word is the one tested for, the first reader was taken, and the others where it isn't
-tested : {A Goal : Type 0} (word text : List ℕ) (r s : Option A) (y : A) → cond (bytes_eq word text) r s ≡ Some y → (word ≡ text → r ≡ Some y → Goal) → (s ≡ Some y → Goal) → Goal
+tested : {A Goal : Type 0} (word text : List ℕ) (r s : Option A) (y : A) → cond (bytes_eq word text) r s ≡ Some y
+    → (word ≡ text → r ≡ Some y → Goal) → (s ≡ Some y → Goal) → Goal
 tested {A} {Goal} word text r s y e here others = by (bytes_eq word text) refl e
   where
     by : (t : Bool) → bytes_eq word text ≡ t → cond t r s ≡ Some y → Goal
@@ -79,7 +82,8 @@ width_back word w e =
 
 width_there : (w : Width) → width_in (decimal (byte_count w)) ≡ Some w
 width_there w =
-    some_bind (decimal_in (decimal (byte_count w))) (byte_count w) width_of (decimal_reads (byte_count w) (omega (arith, count_small w))) ∙ width_of_count w
+    some_bind (decimal_in (decimal (byte_count w))) (byte_count w) width_of
+    (decimal_reads (byte_count w) (omega (arith, count_small w))) ∙ width_of_count w
 
 value_small : (value : ℕ) (w : Width) → value < 256 ^ byte_count w → value < 16 ^ 8
 value_small value B1 h = omega arith
@@ -109,22 +113,27 @@ pad_there bank reg b r =
     ∙ some_bind (number_in 255 (decimal bank)) bank _ (number_there 255 bank (omega arith) (omega arith))
     ∙ some_bind (number_in 255 (decimal reg)) reg _ (number_there 255 reg (omega arith) (omega arith))
 
-address_back : (word : List ℕ) (place : Place) → option_and_then (λ address. Some (Addr address)) (hex_in 8 word) ≡ Some place → PlaceFits place × (word ≡ place_text place)
+address_back : (word : List ℕ) (place : Place) → option_and_then (λ address. Some (Addr address)) (hex_in 8 word) ≡ Some place
+    → PlaceFits place × (word ≡ place_text place)
 address_back word place e =
     let read = bind_some (hex_in 8 word) _ place e in
-    subst (λ (p : Place). PlaceFits p × (word ≡ place_text p)) (some_inj read.2) (omega (arith, hex_bound 8 word read.0 read.1), hex_only 8 word read.0 read.1)
+    subst (λ (p : Place). PlaceFits p × (word ≡ place_text p)) (some_inj read.2)
+    (omega (arith, hex_bound 8 word read.0 read.1), hex_only 8 word read.0 read.1)
 
 -- behind the names of registers
-other_back : (word : List ℕ) (place : Place) → cond (slice_index word 0 == 80) (pad_in (drop 1 word)) (option_and_then (λ address. Some (Addr address)) (hex_in 8 word)) ≡ Some place
+other_back : (word : List ℕ) (place : Place) → cond (slice_index word 0 == 80) (pad_in (drop 1 word))
+    (option_and_then (λ address. Some (Addr address)) (hex_in 8 word)) ≡ Some place
     → PlaceFits place × (word ≡ place_text place)
 other_back [] place e = address_back [] place e
 other_back (c ∷ pad) place e = by (c == 80) refl e
   where
-    by : (t : Bool) → (c == 80) ≡ t → cond t (pad_in pad) (option_and_then (λ address. Some (Addr address)) (hex_in 8 (c ∷ pad))) ≡ Some place → PlaceFits place × (c ∷ pad ≡ place_text place)
+    by : (t : Bool) → (c == 80) ≡ t → cond t (pad_in pad) (option_and_then (λ address. Some (Addr address)) (hex_in 8 (c ∷ pad)))
+        ≡ Some place → PlaceFits place × (c ∷ pad ≡ place_text place)
     by true is e = let h = pad_back pad place e in (h.0, ap (λ x. x ∷ pad) (eqb-true c 80 is) ∙ h.1)
     by false is e = address_back (c ∷ pad) place e
 
-register : (word text : List ℕ) (register place : Place) → PlaceFits register → text ≡ place_text register → word ≡ text → Some register ≡ Some place → PlaceFits place × (word ≡ place_text place)
+register : (word text : List ℕ) (register place : Place) → PlaceFits register → text ≡ place_text register → word ≡ text
+    → Some register ≡ Some place → PlaceFits place × (word ≡ place_text place)
 register word text r place fits named is e = subst (λ (p : Place). PlaceFits p × (word ≡ place_text p)) (some_inj e) (fits, is ∙ named)
 
 place_back : (word : List ℕ) (place : Place) → place_in word ≡ Some place → PlaceFits place × (word ≡ place_text place)
@@ -143,7 +152,8 @@ first_hex (c ∷ word) h = one c (and_parts (is_hex_digit c) (list_all is_hex_di
 
 -- where the word is none of the registers' names
 others_taken : (word : List ℕ) → (word ≡ codes "R30" → ⊥) → (word ≡ codes "R31" → ⊥)
-    → place_in word ≡ cond (slice_index word 0 == 80) (pad_in (drop 1 word)) (option_and_then (λ address. Some (Addr address)) (hex_in 8 word))
+    → place_in word ≡ cond (slice_index word 0 == 80) (pad_in (drop 1 word))
+    (option_and_then (λ address. Some (Addr address)) (hex_in 8 word))
 unfolding place_in
 others_taken word a b = rw (bytes_other word (codes "R30") a, bytes_other word (codes "R31") b)
 
@@ -158,7 +168,8 @@ place_there Reg31 h = refl
 place_there (Addr address) h =
     let is = hex_is 8 address (omega (arith, h)) in
     others_taken (hex8 address) (λ e. omega (arith, ap length e, is.0)) (λ e. omega (arith, ap length e, is.0))
-    ∙ ap (λ t. cond t (pad_in (drop 1 (hex8 address))) (option_and_then (λ a. Some (Addr a)) (hex_in 8 (hex8 address)))) (first_hex (hex8 address) is.1)
+    ∙ ap (λ t. cond t (pad_in (drop 1 (hex8 address))) (option_and_then (λ a. Some (Addr a)) (hex_in 8 (hex8 address))))
+    (first_hex (hex8 address) is.1)
     ∙ some_bind (hex_in 8 (hex8 address)) address _ (hex_reads 8 address (omega (arith, h)))
 place_there (Pad bank reg) h =
     others_taken (80 ∷ (decimal bank ++ 46 ∷ decimal reg)) (λ e. omega (arith, ap first_of e)) (λ e. omega (arith, ap first_of e))
@@ -169,7 +180,8 @@ place_there (Pad bank reg) h =
 three : {a b w x v y : List ℕ} {rest : List (List ℕ)} → a ≡ b → w ≡ x → v ≡ y → rest ≡ [] → a ∷ w ∷ v ∷ rest ≡ b ∷ x ∷ y ∷ []
 three e f g h = cc
 
-access_back : (fields : List (List ℕ)) (a : Place × Width × ℕ) → access_in fields ≡ Some a → AccessFits a.0 a.1 a.2 × (fields ≡ access_fields a.0 a.1 a.2)
+access_back : (fields : List (List ℕ)) (a : Place × Width × ℕ) → access_in fields ≡ Some a
+    → AccessFits a.0 a.1 a.2 × (fields ≡ access_fields a.0 a.1 a.2)
 unfolding access_in
 access_back [] a e = absurd (cc)
 access_back (p ∷ []) a e = absurd (let f = (bind_some (place_in p) _ a e).2 in cc)
@@ -184,7 +196,8 @@ access_back (p ∷ w ∷ v ∷ rest) a e =
     subst (λ (x : Place × Width × ℕ). AccessFits x.0 x.1 x.2 × (p ∷ w ∷ v ∷ rest ≡ access_fields x.0 x.1 x.2)) told.1
     ((place.0, ltb-true _ _ told.0), three place.1 (width_back w g.0 g.1) (hex_only 8 v h.0 h.1) done.0)
 
-access_there : (place : Place) (width : Width) (value : ℕ) → AccessFits place width value → access_in (access_fields place width value) ≡ Some (place, width, value)
+access_there : (place : Place) (width : Width) (value : ℕ) → AccessFits place width value
+    → access_in (access_fields place width value) ≡ Some (place, width, value)
 unfolding access_in
 access_there place width value h =
     some_bind (place_in (place_text place)) place _ (place_there place h.0)
@@ -192,7 +205,8 @@ access_there place width value h =
     ∙ some_bind (hex_in 8 (hex8 value)) value _ (hex_reads 8 value (value_small value width h.1))
     ∙ ap (λ t. cond t (Some (place, width, value)) None) (lt-ltb _ _ h.1)
 
-alone_back : (most : ℕ) (fields : List (List ℕ)) (n : ℕ) → most < 2 ^ 64 - 1 → number_alone most fields ≡ Some n → (n ≤ most) × (fields ≡ decimal n ∷ [])
+alone_back : (most : ℕ) (fields : List (List ℕ)) (n : ℕ) → most < 2 ^ 64 - 1 → number_alone most fields ≡ Some n
+    → (n ≤ most) × (fields ≡ decimal n ∷ [])
 unfolding number_alone
 alone_back most [] n small e = absurd (cc)
 alone_back most (w ∷ rest) n small e =
@@ -212,7 +226,8 @@ alone_there most n small le = some_bind (number_in most (decimal n)) n _ (number
 -- ---- events
 
 access_told : (kind : List ℕ) (fields : List (List ℕ)) (event : Place → Width → ℕ → Event) (e : Event)
-    → ((p : Place) (w : Width) (v : ℕ) → AccessFits p w v → EventFits (event p w v) × (kind ∷ access_fields p w v ≡ event_fields (event p w v)))
+    → ((p : Place) (w : Width) (v : ℕ) → AccessFits p w v → EventFits (event p w v)
+    × (kind ∷ access_fields p w v ≡ event_fields (event p w v)))
     → option_and_then (λ a. Some (event a.0 a.1 a.2)) (access_in fields) ≡ Some e → EventFits e × (kind ∷ fields ≡ event_fields e)
 access_told kind fields event e is h =
     let read = bind_some (access_in fields) _ e h in
@@ -229,23 +244,32 @@ number_told kind most fields event e small is h =
     let told = is read.0 number.0 in
     subst (λ (x : Event). EventFits x × (kind ∷ fields ≡ event_fields x)) (some_inj read.2) (told.0, ap (λ fs. kind ∷ fs) number.1 ∙ told.1)
 
-halt_told : (fields : List (List ℕ)) (e : Event) → at_end fields (Some Halted) ≡ Some e → EventFits e × (codes "H" ∷ fields ≡ event_fields e)
+halt_told : (fields : List (List ℕ)) (e : Event) → at_end fields (Some Halted) ≡ Some e
+    → EventFits e × (codes "H" ∷ fields ≡ event_fields e)
 halt_told fields e h =
     let done = end_some fields (Some Halted) e h in
     subst (λ (x : Event). EventFits x × (codes "H" ∷ fields ≡ event_fields x)) (some_inj done.1) (tt, ap (λ fs. codes "H" ∷ fs) done.0)
 
-headed : (kind text : List ℕ) (fields : List (List ℕ)) (e : Event) → kind ≡ text → EventFits e × (text ∷ fields ≡ event_fields e) → EventFits e × (kind ∷ fields ≡ event_fields e)
+headed : (kind text : List ℕ) (fields : List (List ℕ)) (e : Event) → kind ≡ text → EventFits e × (text ∷ fields ≡ event_fields e)
+    → EventFits e × (kind ∷ fields ≡ event_fields e)
 headed kind text fields e is h = (h.0, ap (λ k. k ∷ fields) is ∙ h.1)
 
-kind_back : (kind : List ℕ) (fields : List (List ℕ)) (e : Event) → kind_in kind fields ≡ Some e → EventFits e × (kind ∷ fields ≡ event_fields e)
+kind_back : (kind : List ℕ) (fields : List (List ℕ)) (e : Event) → kind_in kind fields ≡ Some e
+    → EventFits e × (kind ∷ fields ≡ event_fields e)
 unfolding kind_in
 kind_back kind fields e h =
-    tested kind (codes "R") _ _ e h (λ is r. headed kind (codes "R") fields e is (access_told (codes "R") fields Read e (λ p w v a. (a, refl)) r)) (λ h.
-    tested kind (codes "W") _ _ e h (λ is r. headed kind (codes "W") fields e is (access_told (codes "W") fields Write e (λ p w v a. (a, refl)) r)) (λ h.
-    tested kind (codes "E") _ _ e h (λ is r. headed kind (codes "E") fields e is (number_told (codes "E") 65535 fields Enter e (omega arith) (λ n le. (omega arith, refl)) r)) (λ h.
-    tested kind (codes "L") _ _ e h (λ is r. headed kind (codes "L") fields e is (number_told (codes "L") 65535 fields Leave e (omega arith) (λ n le. (omega arith, refl)) r)) (λ h.
-    tested kind (codes "I") _ _ e h (λ is r. headed kind (codes "I") fields e is (number_told (codes "I") 4294967295 fields DelayIn e (omega arith) (λ n le. (omega arith, refl)) r)) (λ h.
-    tested kind (codes "O") _ _ e h (λ is r. headed kind (codes "O") fields e is (number_told (codes "O") 4294967295 fields DelayOut e (omega arith) (λ n le. (omega arith, refl)) r)) (λ h.
+    tested kind (codes "R") _ _ e h (λ is r. headed kind (codes "R") fields e is
+    (access_told (codes "R") fields Read e (λ p w v a. (a, refl)) r)) (λ h.
+    tested kind (codes "W") _ _ e h (λ is r. headed kind (codes "W") fields e is
+    (access_told (codes "W") fields Write e (λ p w v a. (a, refl)) r)) (λ h.
+    tested kind (codes "E") _ _ e h (λ is r. headed kind (codes "E") fields e is
+    (number_told (codes "E") 65535 fields Enter e (omega arith) (λ n le. (omega arith, refl)) r)) (λ h.
+    tested kind (codes "L") _ _ e h (λ is r. headed kind (codes "L") fields e is
+    (number_told (codes "L") 65535 fields Leave e (omega arith) (λ n le. (omega arith, refl)) r)) (λ h.
+    tested kind (codes "I") _ _ e h (λ is r. headed kind (codes "I") fields e is
+    (number_told (codes "I") 4294967295 fields DelayIn e (omega arith) (λ n le. (omega arith, refl)) r)) (λ h.
+    tested kind (codes "O") _ _ e h (λ is r. headed kind (codes "O") fields e is
+    (number_told (codes "O") 4294967295 fields DelayOut e (omega arith) (λ n le. (omega arith, refl)) r)) (λ h.
     tested kind (codes "H") _ _ e h (λ is r. headed kind (codes "H") fields e is (halt_told fields e r)) (λ h. absurd (cc))))))))
 
 event_back : (fields : List (List ℕ)) (e : Event) → event_in fields ≡ Some e → EventFits e × (fields ≡ event_fields e)
@@ -259,8 +283,10 @@ event_there (Read p w v) h = some_bind (access_in (access_fields p w v)) (p, w, 
 event_there (Write p w v) h = some_bind (access_in (access_fields p w v)) (p, w, v) _ (access_there p w v h)
 event_there (Enter n) h = some_bind (number_alone 65535 (decimal n ∷ [])) n _ (alone_there 65535 n (omega arith) (omega (arith, h)))
 event_there (Leave n) h = some_bind (number_alone 65535 (decimal n ∷ [])) n _ (alone_there 65535 n (omega arith) (omega (arith, h)))
-event_there (DelayIn n) h = some_bind (number_alone 4294967295 (decimal n ∷ [])) n _ (alone_there 4294967295 n (omega arith) (omega (arith, h)))
-event_there (DelayOut n) h = some_bind (number_alone 4294967295 (decimal n ∷ [])) n _ (alone_there 4294967295 n (omega arith) (omega (arith, h)))
+event_there (DelayIn n) h = some_bind (number_alone 4294967295 (decimal n ∷ [])) n _
+    (alone_there 4294967295 n (omega arith) (omega (arith, h)))
+event_there (DelayOut n) h = some_bind (number_alone 4294967295 (decimal n ∷ [])) n _
+    (alone_there 4294967295 n (omega arith) (omega (arith, h)))
 event_there Halted h = refl
 
 -- ---- lines
@@ -275,11 +301,21 @@ place_lacks byte (Pad bank reg) low h = (
       (λ e. omega (arith, e), decimal_lacks byte reg (omega arith) (omega (arith, h.1))),
 )
 
-access_lacks : (byte : ℕ) (kind : List ℕ) (p : Place) (w : Width) (v : ℕ) → byte < 46 → Lacks byte kind → AccessFits p w v → AllByRecursion (Lacks byte) (kind ∷ access_fields p w v)
-access_lacks byte kind p w v low k h =
-    (k, (place_lacks byte p low h.0, (decimal_lacks byte (byte_count w) (omega arith) (omega (arith, count_small w)), (hex_lacks byte 8 v (omega arith) (value_small v w h.1), tt))))
+access_lacks : (byte : ℕ) (kind : List ℕ) (p : Place) (w : Width) (v : ℕ) → byte < 46 → Lacks byte kind → AccessFits p w v
+    → AllByRecursion (Lacks byte) (kind ∷ access_fields p w v)
+access_lacks byte kind p w v low k h = (
+  k,
+  (
+    place_lacks byte p low h.0,
+    (
+      decimal_lacks byte (byte_count w) (omega arith) (omega (arith, count_small w)),
+      (hex_lacks byte 8 v (omega arith) (value_small v w h.1), tt),
+    ),
+  ),
+)
 
-number_lacks : (byte : ℕ) (kind : List ℕ) (n : ℕ) → byte < 46 → Lacks byte kind → n < 2 ^ 64 → AllByRecursion (Lacks byte) (kind ∷ decimal n ∷ [])
+number_lacks : (byte : ℕ) (kind : List ℕ) (n : ℕ) → byte < 46 → Lacks byte kind → n < 2 ^ 64
+    → AllByRecursion (Lacks byte) (kind ∷ decimal n ∷ [])
 number_lacks byte kind n low k small = (k, (decimal_lacks byte n (omega arith) small, tt))
 
 fields_lack : (byte : ℕ) (e : Event) → byte < 46 → EventFits e → AllByRecursion (Lacks byte) (event_fields e)
@@ -315,7 +351,8 @@ line_told line e fits is =
     ap (λ l. event_in (fields_of l)) (is ∙ text_is_line e)
     ∙ ap event_in (fields_again (event_fields e) (some_field e) (fields_lack 32 e (omega arith) fits)) ∙ event_there e fits
 
-pub told_only : (line : List ℕ) (o : Option Event) → o ≡ event_in (fields_of line) → (e : Event) → EventFits e → line ≡ event_text e → o ≡ Some e
+pub told_only : (line : List ℕ) (o : Option Event) → o ≡ event_in (fields_of line) → (e : Event) → EventFits e → line ≡ event_text e
+    → o ≡ Some e
 told_only line o h e fits is = h ∙ line_told line e fits is
 
 -- what is read of a line fits, and the line is its text
@@ -329,7 +366,8 @@ told_text line (Some e) h = line_back line ∙ ap line_of (event_back (fields_of
 
 -- no line end stands in an event's text
 pub text_lacks : (e : Event) → EventFits e → Lacks 10 (event_text e)
-text_lacks e fits = subst (Lacks 10) (sym (text_is_line e)) (line_lacks 10 (event_fields e) (omega arith) (fields_lack 10 e (omega arith) fits))
+text_lacks e fits = subst (Lacks 10) (sym (text_is_line e)) (line_lacks 10 (event_fields e) (omega arith)
+    (fields_lack 10 e (omega arith) fits))
 
 -- two events with one text are one
 pub one_event : (e f : Event) → EventFits e → EventFits f → event_text e ≡ event_text f → e ≡ f

@@ -6,7 +6,8 @@ ghost use Rattle.textline.specs.Lines.{fields_of};
 ghost use Rattle.prutrace.specs.declared.event.Event.{Event};
 ghost use Rattle.prutrace.specs.Text.{event_text};
 ghost use Rattle.prutrace.specs.Reading.{EventFits};
-ghost use Rattle.prutrace.specs.EventLines.{width_of, width_in, number_in, cut_at, pad_in, place_in, field, at_end, access_in, number_alone, kind_in, event_in};
+ghost use Rattle.prutrace.specs.EventLines.{width_of, width_in, number_in, cut_at, pad_in, place_in, field};
+ghost use Rattle.prutrace.specs.EventLines.{at_end, access_in, number_alone, kind_in, event_in};
 
 use crate::event::{Event, Place};
 use prunum::Width;

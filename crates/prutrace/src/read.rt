@@ -116,7 +116,8 @@ fn read_one(alloc: Global, lines: &mut Lines<'_>) -> Result<Vec<Event>, EventsFa
 }
 
 fn read_section(alloc: Global, lines: &mut Lines<'_>) -> Result<Section, EventsFault>
-    ensures section { IfOk result (λ s. IsSection lines.old.text lines.old.number s.events.items s.number s.stop lines.new.text lines.new.number) }
+    ensures section { IfOk result (λ s. IsSection lines.old.text lines.old.number s.events.items s.number s.stop lines.new.text
+        lines.new.number) }
     ensures fault { IfErr result (λ e. e ≡ Memory) }
 {
     let mut events = Vec::new(alloc);

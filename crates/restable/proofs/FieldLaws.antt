@@ -1,9 +1,12 @@
 -- A field that is read is the field that was written, and what was written is read again.
-use Rattle.std.proofs.Common.{◌≡◌, ℕ, zero, suc, ◌+◌, ◌-◌, ◌^◌, ◌<◌, ◌≤◌, ◌==◌, not, Bool, true, false, cond, List, [], ◌∷◌, ◌++◌, length, get_or, take, drop, replicate, Result, Ok, Err, refl, sym, ap, subst, ◌∙◌, append_assoc, arith, inl, inr, nat_lt}
+use Rattle.std.proofs.Common.{◌≡◌, ℕ, zero, suc, ◌+◌, ◌-◌, ◌^◌, ◌<◌, ◌≤◌, ◌==◌, not, Bool, true, false, cond, List, [], ◌∷◌, ◌++◌}
+use Rattle.std.proofs.Common.{length, get_or, take, drop, replicate, Result, Ok, Err, refl, sym, ap, subst, ◌∙◌, append_assoc}
+use Rattle.std.proofs.Common.{arith, inl, inr, nat_lt}
 use Rattle.std.specs.Int.{w32, from_le_bytes, to_le_bytes}
 use Rattle.std.specs.List.{list_all}
 use Rattle.std.proofs.lemmas.Bool.{cases_lt, ltb-false, le-ltb, le-leb, leb-true, eqb-true, eq-eqb, and_parts, and_from}
-use Rattle.std.proofs.lemmas.List.{take_at, drop_at, take-append-drop, length-append, length-take, length-drop, length-replicate, get_or-drop, get_or-take, get_or_past}
+use Rattle.std.proofs.lemmas.List.{take_at, drop_at, take-append-drop, length-append, length-take, length-drop}
+use Rattle.std.proofs.lemmas.List.{length-replicate, get_or-drop, get_or-take, get_or_past}
 use Rattle.std.proofs.lemmas.Nat.{le_bytes_4, from_le_bytes-to_le_bytes_4}
 use Rattle.restable.specs.Names.{can_name}
 use Rattle.restable.specs.Tables.{name_field}
@@ -48,9 +51,14 @@ pub record Takes (bytes text rest : List ℕ) : Type 0 where
   pub rest_fits : IsBytes rest
 
 pub Takes-then : (a x b y c : List ℕ) → Takes a x b → Takes b y c → Takes a (x ++ y) c
-Takes-then a x b y c p q = record { parts = p.parts ∙ ap (λ (t : List ℕ). x ++ t) q.parts ∙ sym (append_assoc x y c); rest_fits = q.rest_fits }
+Takes-then a x b y c p q = record {
+  parts = p.parts ∙ ap (λ (t : List ℕ). x ++ t) q.parts ∙ sym (append_assoc x y c);
+  rest_fits =
+      q.rest_fits;
+}
 
-pub word_takes : (at : ℕ) (bytes : List ℕ) (n : ℕ) (rest : List ℕ) → IsBytes bytes → word_at at bytes ≡ Ok (n, rest) → Takes bytes (to_le_bytes w32 n) rest × (n < 2 ^ 32)
+pub word_takes : (at : ℕ) (bytes : List ℕ) (n : ℕ) (rest : List ℕ) → IsBytes bytes → word_at at bytes ≡ Ok (n, rest)
+    → Takes bytes (to_le_bytes w32 n) rest × (n < 2 ^ 32)
 word_takes at bytes n rest fits e =
     let g = guard_ok (nat_lt (length bytes) 4) (at + length bytes) (from_le_bytes w32 (take 4 bytes), drop 4 bytes) (n, rest) e in
     let long : 4 ≤ length bytes = ltb-false _ _ g.0 in
@@ -68,16 +76,19 @@ word_takes at bytes n rest fits e =
 pub word_again : (at n : ℕ) (rest : List ℕ) → n < 2 ^ 32 → word_at at (to_le_bytes w32 n ++ rest) ≡ Ok (n, rest)
 word_again at n rest lt =
     let long : nat_lt (length (to_le_bytes w32 n ++ rest)) 4 ≡ false = le-ltb _ _ (omega (arith, length-append (to_le_bytes w32 n) rest)) in
-    ap (λ t. cond t (Err (at + length (to_le_bytes w32 n ++ rest))) (Ok (from_le_bytes w32 (take 4 (to_le_bytes w32 n ++ rest)), drop 4 (to_le_bytes w32 n ++ rest)))) long
+    ap (λ t. cond t (Err (at + length (to_le_bytes w32 n ++ rest)))
+    (Ok (from_le_bytes w32 (take 4 (to_le_bytes w32 n ++ rest)), drop 4 (to_le_bytes w32 n ++ rest)))) long
     ∙ ap (λ (m : ℕ). Ok (m, rest)) (from_le_bytes-to_le_bytes_4 n lt)
 
-pub fixed_takes : (value at : ℕ) (bytes rest : List ℕ) → IsBytes bytes → fixed_at value at bytes ≡ Ok rest → Takes bytes (to_le_bytes w32 value) rest
+pub fixed_takes : (value at : ℕ) (bytes rest : List ℕ) → IsBytes bytes → fixed_at value at bytes ≡ Ok rest
+    → Takes bytes (to_le_bytes w32 value) rest
 unfolding fixed_at
 fixed_takes value at bytes rest fits e =
     let b = bind_ok (word_at at bytes) (λ word. cond (word.0 == value) (Ok word.1) (Err at)) rest e in
     let g = guard_ended (b.0.0 == value) at b.0.1 rest b.2 in
     let t = word_takes at bytes b.0.0 b.0.1 fits b.1 in
-    subst (λ (r : List ℕ). Takes bytes (to_le_bytes w32 value) r) g.1 (subst (λ (n : ℕ). Takes bytes (to_le_bytes w32 n) b.0.1) (eqb-true b.0.0 value g.0) t.0)
+    subst (λ (r : List ℕ). Takes bytes (to_le_bytes w32 value) r) g.1
+    (subst (λ (n : ℕ). Takes bytes (to_le_bytes w32 n) b.0.1) (eqb-true b.0.0 value g.0) t.0)
 
 pub fixed_again : (value at : ℕ) (rest : List ℕ) → value < 2 ^ 32 → fixed_at value at (to_le_bytes w32 value ++ rest) ≡ Ok rest
 unfolding fixed_at
@@ -105,8 +116,10 @@ front_has_none : (field : List ℕ) → list_all no_zero (take (name_len field) 
 front_has_none [] = refl
 front_has_none (b ∷ field) = by (no_zero b) refl (front_has_none field)
   where
-    by : (t : Bool) → no_zero b ≡ t → list_all no_zero (take (name_len field) field) ≡ true → list_all no_zero (take (cond t (1 + name_len field) 0) (b ∷ field)) ≡ true
-    by true e h = ap (λ k. list_all no_zero (take k (b ∷ field))) (let k : 1 + name_len field ≡ suc (name_len field) = omega arith in k) ∙ and_from (no_zero b) _ e h
+    by : (t : Bool) → no_zero b ≡ t → list_all no_zero (take (name_len field) field) ≡ true
+        → list_all no_zero (take (cond t (1 + name_len field) 0) (b ∷ field)) ≡ true
+    by true e h = ap (λ k. list_all no_zero (take k (b ∷ field)))
+        (let k : 1 + name_len field ≡ suc (name_len field) = omega arith in k) ∙ and_from (no_zero b) _ e h
     by false e h = refl
 
 zeros : (field : List ℕ) → list_all is_zero field ≡ true → field ≡ replicate (length field) 0
@@ -130,12 +143,15 @@ name_len_of (b ∷ name) n h =
 pub front_names : (field : List ℕ) → length field ≤ 32 → can_name (take (name_len field) field) ≡ true
 front_names field long = and_from _ _ (le-leb _ 32 (omega (arith, length-take (name_len field) field))) (front_has_none field)
 
-pub name_takes : (at : ℕ) (bytes name rest : List ℕ) → IsBytes bytes → name_at at bytes ≡ Ok (name, rest) → Takes bytes (name_field name) rest
+pub name_takes : (at : ℕ) (bytes name rest : List ℕ) → IsBytes bytes → name_at at bytes ≡ Ok (name, rest)
+    → Takes bytes (name_field name) rest
 unfolding name_at
 name_takes at bytes name rest fits e = by (nat_lt (length bytes) 32) refl e
   where
     by : (t : Bool) → nat_lt (length bytes) 32 ≡ t
-        → cond {A = Result (List ℕ × List ℕ) ℕ} t (Err (at + length bytes)) (cond (list_all is_zero (drop (name_len (take 32 bytes)) (take 32 bytes))) (Ok (take (name_len (take 32 bytes)) (take 32 bytes), drop 32 bytes)) (Err at)) ≡ Ok (name, rest)
+        → cond {A = Result (List ℕ × List ℕ) ℕ} t (Err (at + length bytes))
+        (cond (list_all is_zero (drop (name_len (take 32 bytes)) (take 32 bytes)))
+        (Ok (take (name_len (take 32 bytes)) (take 32 bytes), drop 32 bytes)) (Err at)) ≡ Ok (name, rest)
         → Takes bytes (name_field name) rest
     by true is e = absurd (cc)
     by false is e =
@@ -148,9 +164,11 @@ name_takes at bytes name rest fits e = by (nat_lt (length bytes) 32) refl e
         let rest-is : drop 32 bytes ≡ rest = ap (λ (p : List ℕ × List ℕ). p.1) g.1 in
         let few : k ≤ length field = name_len-le field in
         let count : length (drop k field) ≡ 32 - length (take k field) = omega (arith, length-drop k field, length-take k field) in
-        let filled : field ≡ name_field (take k field) = sym (take-append-drop k field) ∙ ap (λ xs. take k field ++ xs) (zeros (drop k field) g.0 ∙ ap (λ n. replicate n 0) count) in
+        let filled : field ≡ name_field (take k field) = sym (take-append-drop k field)
+        ∙ ap (λ xs. take k field ++ xs) (zeros (drop k field) g.0 ∙ ap (λ n. replicate n 0) count) in
         record {
-          parts = sym (take-append-drop 32 bytes) ∙ ap (λ xs. xs ++ drop 32 bytes) filled ∙ ap (λ xs. name_field xs ++ drop 32 bytes) name-is ∙ ap (λ xs. name_field name ++ xs) rest-is;
+          parts = sym (take-append-drop 32 bytes) ∙ ap (λ xs. xs ++ drop 32 bytes) filled
+              ∙ ap (λ xs. name_field xs ++ drop 32 bytes) name-is ∙ ap (λ xs. name_field name ++ xs) rest-is;
           rest_fits = subst IsBytes rest-is (IsBytes-drop 32 bytes fits);
         }
 

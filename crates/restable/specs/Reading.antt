@@ -1,5 +1,6 @@
 -- Reading from left to right: a field is a value and the bytes behind it, or the offset of the first fault.
-use Rattle.std.specs.Prelude.{◌≡◌, ℕ, zero, suc, ◌+◌, ◌*◌, ◌==◌, not, nat_lt, if◌then◌else◌, List, [], ◌∷◌, length, take, drop, Result, Ok, Err}
+use Rattle.std.specs.Prelude.{◌≡◌, ℕ, zero, suc, ◌+◌, ◌*◌, ◌==◌, not, nat_lt, if◌then◌else◌, List}
+use Rattle.std.specs.Prelude.{[], ◌∷◌, length, take, drop, Result, Ok, Err}
 use Rattle.std.specs.List.{list_all, prefix_len}
 use Rattle.std.specs.Int.{w32, from_le_bytes}
 use Rattle.restable.specs.declared.trace.Trace.{Trace}
@@ -29,7 +30,8 @@ name_len field = prefix_len (λ b. not (b == 0)) field
 unfoldable pub name_at : ℕ → List ℕ → Result (List ℕ × List ℕ) ℕ
 name_at at bytes =
     if nat_lt (length bytes) 32 then Err (at + length bytes)
-    else (if list_all (λ b. b == 0) (drop (name_len (take 32 bytes)) (take 32 bytes)) then Ok (take (name_len (take 32 bytes)) (take 32 bytes), drop 32 bytes) else Err at)
+    else (if list_all (λ b. b == 0) (drop (name_len (take 32 bytes)) (take 32 bytes)) then Ok
+    (take (name_len (take 32 bytes)) (take 32 bytes), drop 32 bytes) else Err at)
 
 -- an entry: the type 2, the address, the length, 0, and the name
 unfoldable pub entry_at : ℕ → List ℕ → Result (Trace × List ℕ) ℕ

@@ -16,7 +16,8 @@ pub fn read(alloc: Global, bytes: &[u8]) -> Result<Vec<Trace>, TableFault>
     // What is read is what stands there.
     ensures found { IfOk result (λ traces. bytes.now ≡ table traces.items) }
     // What is a table is read, unless memory runs out.
-    ensures only { (traces : List Trace) → AllByRecursion IsTrace traces → bytes.now ≡ table traces → Gives (λ v. v.items) result (Ok traces) }
+    ensures only { (traces : List Trace) → AllByRecursion IsTrace traces → bytes.now ≡ table traces
+        → Gives (λ v. v.items) result (Ok traces) }
     // Which fault it is.
     ensures exact { Gives (λ v. v.items) result (table_in bytes.now) }
 {

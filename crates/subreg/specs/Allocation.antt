@@ -46,7 +46,8 @@ pub record Meet (f : Function) (v w : VReg) : Type 0 where
 pub record Fits (f : Function) (homes : List Home) (spills : ℕ) : Type 0 where
   pub all : length homes ≡ length f.registers
   pub well : (v : VReg) (w : Width) (h : Home) → slice_get f.registers v.0 ≡ Some w → slice_get homes v.0 ≡ Some h → LivesWell spills w h
-  pub apart : (v w : VReg) (h k : Home) → v.0 ≢ w.0 → slice_get homes v.0 ≡ Some h → slice_get homes w.0 ≡ Some k → Meet f v w → AreApart h k
+  pub apart : (v w : VReg) (h k : Home) → v.0 ≢ w.0 → slice_get homes v.0 ≡ Some h → slice_get homes w.0 ≡ Some k → Meet f v w
+      → AreApart h k
 
 -- a register other than v whose span covers a place
 pub record Covers (f : Function) (place : ℕ) (v : VReg) : Type 0 where

@@ -1,5 +1,6 @@
 -- Decimal numbers are read as they are printed, and nothing else is.
-use Rattle.std.proofs.Common.{◌≡◌, ℕ, zero, suc, ◌+◌, ◌-◌, ◌*◌, ◌^◌, ◌<◌, true, List, length, take, get_or, sym, ap, ◌∙◌, arith, rules, Some, min}
+use Rattle.std.proofs.Common.{◌≡◌, ℕ, zero, suc, ◌+◌, ◌-◌, ◌*◌, ◌^◌, ◌<◌, true, List, length, take}
+use Rattle.std.proofs.Common.{get_or, sym, ap, ◌∙◌, arith, rules, Some, min}
 use Rattle.std.proofs.lemmas.Bool.{and_from}
 use Rattle.std.proofs.lemmas.Bool.Decides.{nat_tests}
 use Rattle.std.proofs.lemmas.Fmt.{decimal_is_IsNumeral, first_decimal, decimal-digits_value, decimal_digit}
@@ -18,7 +19,8 @@ digits_test = search rules
 own : IsNumeralModel (λ ds. list_all is_ascii_digit ds ≡ true) (digits_value 10)
 own = numerals_by_value _ digits_test
 
-reads : (word : List ℕ) (n : ℕ) → list_all is_ascii_digit word ≡ true → 0 < length word → (get_or word 0 0 ≡ 48 → length word ≡ 1) → digits_value 10 word ≡ n → n < 2 ^ 64
+reads : (word : List ℕ) (n : ℕ) → list_all is_ascii_digit word ≡ true → 0 < length word → (get_or word 0 0 ≡ 48 → length word ≡ 1)
+    → digits_value 10 word ≡ n → n < 2 ^ 64
     → decimal_in word ≡ Some n
 reads word n digits some lead value small = grind (arith, nat_tests)
 
@@ -32,7 +34,8 @@ decimal_reads n small =
     lead (suc m) small e = absurd (omega (arith, first_decimal (suc m) (omega arith) small))
 
 told : (word : List ℕ) (n : ℕ) → decimal_in word ≡ Some n
-    → (list_all is_ascii_digit word ≡ true) × (0 < length word) × (get_or word 0 0 ≡ 48 → length word ≡ 1) × (min (digits_value 10 word) (2 ^ 64 - 1) ≡ n)
+    → (list_all is_ascii_digit word ≡ true) × (0 < length word) × (get_or word 0 0 ≡ 48 → length word ≡ 1)
+    × (min (digits_value 10 word) (2 ^ 64 - 1) ≡ n)
 told word n read = grind (arith, nat_tests)
 
 pub decimal_only : (word : List ℕ) (n : ℕ) → decimal_in word ≡ Some n → n < 2 ^ 64 - 1 → word ≡ decimal n
@@ -42,7 +45,8 @@ decimal_only word n read small =
     sym (ap decimal (sym same) ∙ decimal-digits_value own word t.0 t.1 t.2 (omega arith))
 
 -- one digit more
-pub digits_step : (word : List ℕ) (i : ℕ) → i < length word → list_all is_ascii_digit (take i word) ≡ true → is_ascii_digit (get_or word i 0) ≡ true
+pub digits_step : (word : List ℕ) (i : ℕ) → i < length word → list_all is_ascii_digit (take i word) ≡ true
+    → is_ascii_digit (get_or word i 0) ≡ true
     → list_all is_ascii_digit (take (i + 1) word) ≡ true
 digits_step word i h all one = list_all_more is_ascii_digit word i 0 h ∙ and_from _ _ all one
 
@@ -50,7 +54,8 @@ digit_minus : (c : ℕ) → is_ascii_digit c ≡ true → digit_value c ≡ c - 
 digit_minus c h = grind (arith, nat_tests)
 
 -- the value, kept within 64 bits
-pub value_step : (word : List ℕ) (i v tens d more : ℕ) → i < length word → v ≡ min (digits_value 10 (take i word)) (2 ^ 64 - 1) → is_ascii_digit (get_or word i 0) ≡ true
+pub value_step : (word : List ℕ) (i v tens d more : ℕ) → i < length word → v ≡ min (digits_value 10 (take i word)) (2 ^ 64 - 1)
+    → is_ascii_digit (get_or word i 0) ≡ true
     → tens ≡ min (v * 10) (2 ^ 64 - 1) → d ≡ get_or word i 0 - 48 → more ≡ min (tens + d) (2 ^ 64 - 1)
     → more ≡ min (digits_value 10 (take (i + 1) word)) (2 ^ 64 - 1)
 value_step word i v tens d more h e one t f m = omega (arith, digits_value_more 10 word i h, digit_minus (get_or word i 0) one)

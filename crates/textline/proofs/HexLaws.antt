@@ -1,5 +1,7 @@
 -- Hexadecimal numbers are read as they are printed, and nothing else is.
-use Rattle.std.proofs.Common.{◌≡◌, ℕ, zero, suc, ◌+◌, ◌-◌, ◌*◌, ◌/◌, ◌%◌, ◌^◌, ◌<◌, ◌≤◌, true, false, cond, ◌&&◌, ◌==◌, List, [], ◌∷◌, ◌++◌, length, refl, sym, ap, ◌∙◌, arith, Some, None, eq-eqb, append_assoc, length-append, take, get_or, add-one, ◌⊎◌, inl, inr}
+use Rattle.std.proofs.Common.{◌≡◌, ℕ, zero, suc, ◌+◌, ◌-◌, ◌*◌, ◌/◌, ◌%◌, ◌^◌, ◌<◌, ◌≤◌, true, false, cond, ◌&&◌, ◌==◌, List, []}
+use Rattle.std.proofs.Common.{◌∷◌, ◌++◌, length, refl, sym, ap, ◌∙◌, arith, Some, None, eq-eqb, append_assoc, length-append, take}
+use Rattle.std.proofs.Common.{get_or, add-one, ◌⊎◌, inl, inr}
 use Rattle.std.proofs.lemmas.Bool.{and_from, and_parts, eqb-true, cases_lt, lt-ltb, le-ltb}
 use Rattle.std.proofs.lemmas.Bool.Decides.{nat_tests}
 use Rattle.std.proofs.lemmas.Int.Digits.{digits_value_push, digits_value_more, digits_value-lt}
@@ -25,7 +27,8 @@ glyph_hex d small = elim (cases_lt d 10) [
   | inr high ↦ rw (le-ltb d 10 high) (letter_hex d high small)
 ]
 
-pub hex_value : (c : ℕ) → is_hex_digit c ≡ true → ((48 ≤ c) × (c ≤ 57) × (digit_value c ≡ c - 48)) ⊎ ((97 ≤ c) × (c ≤ 102) × (digit_value c ≡ c - 87))
+pub hex_value : (c : ℕ) → is_hex_digit c ≡ true → ((48 ≤ c) × (c ≤ 57) × (digit_value c ≡ c - 48))
+    ⊎ ((97 ≤ c) × (c ≤ 102) × (digit_value c ≡ c - 87))
 hex_value c h = grind (arith, nat_tests)
 
 hex_glyph : (c : ℕ) → is_hex_digit c ≡ true → (digit_value c < 16) × (digit_glyph false (digit_value c) ≡ c)
@@ -36,7 +39,8 @@ hex_glyph c h = elim (hex_value c h) [
 
 -- the digits of a number below 16 ^ count
 printed : (count n : ℕ) → n < 16 ^ count
-    → (length (hex_digits count n) ≡ count) × (list_all is_hex_digit (hex_digits count n) ≡ true) × (digits_value 16 (hex_digits count n) ≡ n)
+    → (length (hex_digits count n) ≡ count) × (list_all is_hex_digit (hex_digits count n) ≡ true)
+    × (digits_value 16 (hex_digits count n) ≡ n)
 unfolding hex_digits
 printed zero n small = (refl, refl, omega arith)
 printed (suc count) n small =
@@ -44,7 +48,8 @@ printed (suc count) n small =
     let front = printed count (n / 16) below in
     let last = glyph_hex (n % 16) (omega arith) in (
       length-append (hex_digits count (n / 16)) (digit_glyph false (n % 16) ∷ []) ∙ omega (arith, front.0),
-      list_all-append is_hex_digit (hex_digits count (n / 16)) (digit_glyph false (n % 16) ∷ []) ∙ and_from _ _ front.1 (and_from _ true last.0 refl),
+      list_all-append is_hex_digit (hex_digits count (n / 16)) (digit_glyph false (n % 16) ∷ [])
+          ∙ and_from _ _ front.1 (and_from _ true last.0 refl),
       digits_value_push 16 (hex_digits count (n / 16)) (digit_glyph false (n % 16)) ∙ omega (arith, front.2, last.1),
     )
 
@@ -54,7 +59,8 @@ hex_reads count n small =
     ap (λ t. cond t (Some (digits_value 16 (hex_digits count n))) None) (and_from _ _ (eq-eqb _ _ p.0) p.1) ∙ ap Some p.2
 
 -- digits that follow those of a number
-followed : (cs : List ℕ) (k v : ℕ) → list_all is_hex_digit cs ≡ true → hex_digits k v ++ cs ≡ hex_digits (k + length cs) (digits_value_after 16 v cs)
+followed : (cs : List ℕ) (k v : ℕ) → list_all is_hex_digit cs ≡ true
+    → hex_digits k v ++ cs ≡ hex_digits (k + length cs) (digits_value_after 16 v cs)
 unfolding hex_digits
 followed [] k v h = append-nil (hex_digits k v) ∙ ap (λ j. hex_digits j v) (let e : k ≡ k + 0 = omega arith in e)
 followed (c ∷ cs) k v h =
@@ -76,7 +82,9 @@ unfolding hex_digits
 hex_only count word n read =
     let c = cond_some (length word == count && list_all is_hex_digit word) (digits_value 16 word) n read in
     let parts = and_parts _ _ c.0 in
-    followed word 0 0 parts.1 ∙ ap (λ j. hex_digits j (digits_value 16 word)) (let e : 0 + length word ≡ length word = omega arith in e) ∙ ap (λ j. hex_digits j (digits_value 16 word)) (eqb-true _ _ parts.0) ∙ ap (hex_digits count) c.1
+    followed word 0 0 parts.1 ∙ ap (λ j. hex_digits j (digits_value 16 word))
+    (let e : 0 + length word ≡ length word = omega arith in e)
+    ∙ ap (λ j. hex_digits j (digits_value 16 word)) (eqb-true _ _ parts.0) ∙ ap (hex_digits count) c.1
 
 AllDigits_hex : (word : List ℕ) → list_all is_hex_digit word ≡ true → AllDigits 16 word
 AllDigits_hex [] h = tt
@@ -89,12 +97,14 @@ pub hex_small : (word : List ℕ) → list_all is_hex_digit word ≡ true → di
 hex_small word h = digits_value-lt 16 word (AllDigits_hex word h)
 
 -- one digit more
-pub digit_of : (c d : ℕ) → Some d ≡ cond (is_hex_digit c) (Some (digit_value c)) None → (is_hex_digit c ≡ true) × (digit_value c ≡ d) × (d < 16)
+pub digit_of : (c d : ℕ) → Some d ≡ cond (is_hex_digit c) (Some (digit_value c)) None
+    → (is_hex_digit c ≡ true) × (digit_value c ≡ d) × (d < 16)
 digit_of c d e =
     let r = cond_some (is_hex_digit c) (digit_value c) d (sym e) in
     (r.0, r.1, omega (arith, r.1, (hex_glyph c r.0).0))
 
-pub digits_step : (word : List ℕ) (i : ℕ) → i < length word → list_all is_hex_digit (take i word) ≡ true → is_hex_digit (get_or word i 0) ≡ true
+pub digits_step : (word : List ℕ) (i : ℕ) → i < length word → list_all is_hex_digit (take i word) ≡ true
+    → is_hex_digit (get_or word i 0) ≡ true
     → list_all is_hex_digit (take (i + 1) word) ≡ true
 digits_step word i h all one = list_all_more is_hex_digit word i 0 h ∙ and_from _ _ all one
 

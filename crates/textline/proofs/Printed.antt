@@ -1,5 +1,6 @@
 -- What printed numbers are made of, which bytes texts lack, and where a text is cut.
-use Rattle.std.proofs.Common.{◌≡◌, ◌≢◌, ℕ, ◌^◌, ◌<◌, ◌≤◌, Bool, true, ◌&&◌, ◌==◌, nat_le, List, [], ◌∷◌, ◌++◌, length, Some, refl, sym, ap, subst, ◌∙◌, arith}
+use Rattle.std.proofs.Common.{◌≡◌, ◌≢◌, ℕ, ◌^◌, ◌<◌, ◌≤◌, Bool, true, ◌&&◌, ◌==◌, nat_le, List, [], ◌∷◌}
+use Rattle.std.proofs.Common.{◌++◌, length, Some, refl, sym, ap, subst, ◌∙◌, arith}
 use Rattle.std.specs.List.{list_all, AllByRecursion}
 use Rattle.std.specs.Char.{is_ascii_digit}
 use Rattle.std.specs.Fmt.{decimal}
@@ -57,7 +58,8 @@ decimal_lacks byte n low small = lacks_low byte (decimal n) low (digit_high (dec
 -- so many digits, each a hexadecimal one
 pub hex_is : (count n : ℕ) → n < 16 ^ count → (length (hex_digits count n) ≡ count) × (list_all is_hex_digit (hex_digits count n) ≡ true)
 hex_is count n small =
-    let told = cond_some (length (hex_digits count n) == count && list_all is_hex_digit (hex_digits count n)) _ n (hex_reads count n small) in
+    let told = cond_some (length (hex_digits count n) == count && list_all is_hex_digit (hex_digits count n)) _ n
+    (hex_reads count n small) in
     let parts = and_parts _ _ told.0 in
     (eqb-true _ _ parts.0, parts.1)
 
@@ -83,7 +85,8 @@ line_lacks byte (field ∷ next ∷ fields) space all =
     append_lacks byte field (32 ∷ line_of (next ∷ fields)) all.0 (space, line_lacks byte (next ∷ fields) space all.1)
 
 -- the first such byte cuts a text in one way
-pub cut_once : (byte : ℕ) (one other behind rest : List ℕ) → Lacks byte one → Lacks byte other → one ++ byte ∷ behind ≡ other ++ byte ∷ rest → (one ≡ other) × (behind ≡ rest)
+pub cut_once : (byte : ℕ) (one other behind rest : List ℕ) → Lacks byte one → Lacks byte other
+    → one ++ byte ∷ behind ≡ other ++ byte ∷ rest → (one ≡ other) × (behind ≡ rest)
 cut_once byte [] [] behind rest a b e = (refl, cc)
 cut_once byte [] (c ∷ other) behind rest a b e = absurd (b.0 (let h : byte ≡ c = cc in sym h))
 cut_once byte (c ∷ one) [] behind rest a b e = absurd (a.0 (cc))

@@ -1,5 +1,6 @@
 -- What a core does in the machine is what it does alone.
-use Rattle.std.proofs.Common.{◌≡◌, ℕ, zero, suc, ◌+◌, ◌<◌, Bool, true, false, cond, List, [], ◌∷◌, ◌++◌, map, Option, Some, None, refl, sym, ap, subst, ◌∙◌, arith, append_assoc}
+use Rattle.std.proofs.Common.{◌≡◌, ℕ, zero, suc, ◌+◌, ◌<◌, Bool, true, false, cond, List, [], ◌∷◌, ◌++◌, map}
+use Rattle.std.proofs.Common.{Option, Some, None, refl, sym, ap, subst, ◌∙◌, arith, append_assoc}
 use Rattle.std.specs.Prelude.{◌==◌, ◌&&◌}
 use Rattle.std.proofs.lemmas.List.{append-nil}
 use Rattle.prutrace.specs.declared.event.Event.{Event}
@@ -26,7 +27,8 @@ use Rattle.twocore.specs.declared.side.Side.{Side}
 use Rattle.twocore.specs.declared.side.Word.{Word}
 use Rattle.twocore.specs.Memory.{spot_of}
 use Rattle.twocore.specs.World.{Stage, stored_in}
-use Rattle.twocore.specs.Word.{Turned, quiet, beginning, begun_by, begun, input_for, stamped_by, side_after, ended, worked_by, worked, is_going, turned}
+use Rattle.twocore.specs.Word.{Turned, quiet, beginning, begun_by, begun, input_for, stamped_by}
+use Rattle.twocore.specs.Word.{side_after, ended, worked_by, worked, is_going, turned}
 use Rattle.twocore.specs.Alone.{events_of, standing, alone_as, RunsAlone}
 use Rattle.twocore.proofs.KeepLemmas.{Keeps, moved, stored_keeps_own, stored_own_core}
 use Rattle.twocore.proofs.RangeLemmas.{StageFits, input_fits}
@@ -126,9 +128,23 @@ module _ (setup : Setup) (t : ℕ) (s : Stage) (word : Word) (trace : List Stamp
       → after_step (alone_as s.own trace (values_of did.out.events ++ behind)) behind did
       ≡ alone_as (side_after s.own did) (trace ++ shown) behind
   same_after behind =
-      ap (λ (p : Stop). record { core = did.core; stands = p; left = behind; shown = events_of trace ++ did.out.events; count = s.own.count + 1 })
+      ap (λ (p : Stop). record {
+        core = did.core;
+        stands = p;
+        left = behind;
+        shown = events_of trace ++ did.out.events;
+        count =
+            s.own.count + 1;
+      })
       (sym stands_is)
-      ∙ ap (λ (es : List Event). record { core = did.core; stands = standing did.out.stop; left = behind; shown = es; count = s.own.count + 1 })
+      ∙ ap (λ (es : List Event). record {
+        core = did.core;
+        stands = standing did.out.stop;
+        left = behind;
+        shown = es;
+        count =
+            s.own.count + 1;
+      })
       (sym events_are)
 
   word_alone : RunsAlone setup.image (side_after s.own did) (trace ++ shown)
@@ -206,7 +222,11 @@ goes_alone setup t s trace None None at fits going alone =
     })
 goes_alone setup t s trace None (Some i) at fits going alone =
     let mid : Stage = record s { own = beginning setup t s.own (Some i) } in
-    after_worked setup t mid trace _ (record { own = record { core = fits.own.core; window = fits.own.window }; other = fits.other; world = fits.world })
+    after_worked setup t mid trace _ (record {
+      own = record { core = fits.own.core; window = fits.own.window };
+      other = fits.other;
+      world = fits.world;
+    })
     going (alone_moved setup.image s.own mid.own trace refl refl refl alone)
 goes_alone setup t s trace (Some word) o at fits going alone = after_worked setup t s trace word fits going alone
 

@@ -1,5 +1,6 @@
 -- Each core runs alone through all cycles.
-use Rattle.std.proofs.Common.{◌≡◌, ℕ, zero, suc, ◌+◌, ◌-◌, ◌<◌, ◌≤◌, Bool, true, false, cond, IsTrue, List, [], ◌∷◌, ◌++◌, length, take, refl, sym, ap, subst, ◌∙◌, arith}
+use Rattle.std.proofs.Common.{◌≡◌, ℕ, zero, suc, ◌+◌, ◌-◌, ◌<◌, ◌≤◌, Bool, true, false, cond, IsTrue, List, []}
+use Rattle.std.proofs.Common.{◌∷◌, ◌++◌, length, take, refl, sym, ap, subst, ◌∙◌, arith}
 use Rattle.std.specs.Prelude.{◌==◌, ◌&&◌, ◌||◌, nat_lt, nat_le, slice_index}
 use Rattle.std.specs.List.{AllByRecursion}
 use Rattle.std.proofs.lemmas.Bool.Decides.{nat_tests}
@@ -27,18 +28,21 @@ use Rattle.twocore.specs.declared.spot.Spot.TheVariants.{Own, Other, Shared, Con
 use Rattle.twocore.specs.Memory.{spot_of, put}
 use Rattle.twocore.specs.World.{Stage, stored_in}
 use Rattle.twocore.specs.Word.{Turned, turned, access_at, waits, cycles_of}
-use Rattle.twocore.specs.Machine.{Machine, acts_at, swapped, acted, all_acted, cycle, cycles, side_at_start, starts_at_once, world_at_start, at_start_of}
+use Rattle.twocore.specs.Machine.{Machine, acts_at, swapped, acted, all_acted, cycle, cycles}
+use Rattle.twocore.specs.Machine.{side_at_start, starts_at_once, world_at_start, at_start_of}
 use Rattle.twocore.specs.Alone.{RunsAlone, AreGiven, SparesZero, SparesOne, InEach, behind_acts, behind_zero}
 use Rattle.twocore.proofs.KeepLemmas.{Keeps, KeepsBoth, all_acted_keeps, turned_keeps, stored_own_core}
 use Rattle.twocore.proofs.RangeLemmas.{StageFits}
-use Rattle.twocore.proofs.StageLemmas.{whole, turned_fits, swapped_fits, behind_acts_fits, given_stays, cycles_fit, side_start_fits, world_start_fits}
+use Rattle.twocore.proofs.StageLemmas.{whole, turned_fits, swapped_fits, behind_acts_fits, given_stays}
+use Rattle.twocore.proofs.StageLemmas.{cycles_fit, side_start_fits, world_start_fits}
 use Rattle.twocore.proofs.SteadyLemmas.{acts_are}
 use Rattle.twocore.proofs.AloneLemmas.{turned_alone, kept_alone}
 
 -- ---- acts leave the private parts as they are
 
 started_core : (b : Bool) (s : Stage)
-    → (cond b (record s { own = record s.own { started = true } }) (record s { other = record s.other { started = true } })).own.core ≡ s.own.core
+    → (cond b (record s { own = record s.own { started = true } })
+    (record s { other = record s.other { started = true } })).own.core ≡ s.own.core
 started_core true s = refl
 started_core false s = refl
 
@@ -132,7 +136,13 @@ all_other_ram s (a ∷ acts) are = all_other_ram (acted s a.action) acts are.1 �
 start_alone : (image : Contents) (started : Bool) → RunsAlone image (side_at_start image started) []
 start_alone image started = record {
   runs = λ behind more.
-      ap (λ (n : ℕ). exec (alone_step image) n (record { core = (side_at_start image started).core; stands = Going; left = behind; shown = []; count = 0 }))
+      ap (λ (n : ℕ). exec (alone_step image) n (record {
+        core = (side_at_start image started).core;
+        stands = Going;
+        left = behind;
+        shown = [];
+        count = 0;
+      }))
       (let e : 0 + more ≡ more = omega arith in e);
   stuck = λ is. absurd (cc);
 }

@@ -1,5 +1,6 @@
 -- What acts and the other core's cycle leave of a core, and what its own cycle does.
-use Rattle.std.proofs.Common.{◌≡◌, ℕ, zero, suc, ◌+◌, ◌-◌, ◌≤◌, Bool, true, false, cond, List, [], ◌∷◌, ◌++◌, Option, Some, None, refl, sym, ap, ◌∙◌, arith}
+use Rattle.std.proofs.Common.{◌≡◌, ℕ, zero, suc, ◌+◌, ◌-◌, ◌≤◌, Bool, true, false, cond, List, [], ◌∷◌}
+use Rattle.std.proofs.Common.{◌++◌, Option, Some, None, refl, sym, ap, ◌∙◌, arith}
 use Rattle.std.specs.Prelude.{◌==◌, ◌&&◌}
 use Rattle.isa.specs.declared.inst.Inst.{Inst}
 use Rattle.corestep.specs.declared.out.Stop.{Stop}
@@ -15,7 +16,8 @@ use Rattle.twocore.specs.declared.spot.Spot.{Spot}
 use Rattle.twocore.specs.declared.spot.Spot.TheVariants.{Own, Other, Shared, Controller, Outside, Nothing}
 use Rattle.twocore.specs.Memory.{spot_of}
 use Rattle.twocore.specs.World.{Stage, stored_in, pads_after}
-use Rattle.twocore.specs.Word.{Turned, quiet, waits, beginning, begun_by, begun, input_for, side_after, world_after, ended, worked_by, worked, is_going, turned}
+use Rattle.twocore.specs.Word.{Turned, quiet, waits, beginning, begun_by, begun, input_for, side_after}
+use Rattle.twocore.specs.Word.{world_after, ended, worked_by, worked, is_going, turned}
 use Rattle.twocore.specs.Machine.{acted, all_acted}
 
 -- all but whether it has started, its window and the private part of its RAM stays
@@ -75,8 +77,16 @@ both_same s = record { own = keeps_same s.own; other = keeps_same s.other }
 
 started_keeps : (b : Bool) (s : Stage)
     → KeepsBoth s (cond b (record s { own = record s.own { started = true } }) (record s { other = record s.other { started = true } }))
-started_keeps true s = record { own = record { core = refl; stop = refl; word = refl; waited = refl; count = refl }; other = keeps_same s.other }
-started_keeps false s = record { own = keeps_same s.own; other = record { core = refl; stop = refl; word = refl; waited = refl; count = refl } }
+started_keeps true s = record {
+  own = record { core = refl; stop = refl; word = refl; waited = refl; count = refl };
+  other =
+      keeps_same s.other;
+}
+started_keeps false s = record {
+  own = keeps_same s.own;
+  other =
+      record { core = refl; stop = refl; word = refl; waited = refl; count = refl };
+}
 
 acted_keeps : (s : Stage) (a : Action) → KeepsBoth s (acted s a)
 acted_keeps s (action.Poke addr width value) =

@@ -1,5 +1,6 @@
 -- Bytes put into a memory one by one are a range of it.
-use Rattle.std.proofs.Common.{◌≡◌, ℕ, zero, suc, ◌+◌, ◌-◌, ◌<◌, ◌≤◌, List, [], ◌∷◌, ◌++◌, length, take, drop, refl, sym, ap, ◌∙◌, arith, inl, inr, append_assoc}
+use Rattle.std.proofs.Common.{◌≡◌, ℕ, zero, suc, ◌+◌, ◌-◌, ◌<◌, ◌≤◌, List, [], ◌∷◌, ◌++◌, length, take}
+use Rattle.std.proofs.Common.{drop, refl, sym, ap, ◌∙◌, arith, inl, inr, append_assoc}
 use Rattle.std.specs.Prelude.{slice_set}
 use Rattle.std.proofs.Math.ListN.{drop_of_length-le, set}
 use Rattle.std.proofs.Math.Seq.{take-suc-set, set_out, take-length}
@@ -39,7 +40,8 @@ put_range memory at (b ∷ bytes) h =
           let memory' : List ℕ = slice_set memory at b in
           let long : length memory' ≡ length memory = length-set memory at b in
           let rest : List ℕ = take (length memory' - (at + 1)) bytes in
-          let kept : take (length memory - at) (b ∷ bytes) ≡ b ∷ rest = take_suc bytes b (length memory - at) (length memory' - (at + 1)) (omega arith) in
+          let kept : take (length memory - at) (b ∷ bytes) ≡ b ∷ rest =
+          take_suc bytes b (length memory - at) (length memory' - (at + 1)) (omega arith) in
           let front : take (at + 1) memory' ≡ take at memory ++ b ∷ [] =
           ap (λ (n : ℕ). take n memory') (let e : at + 1 ≡ suc at = omega arith in e) ∙ take-suc-set memory at b h in
           let back : drop (at + 1 + length rest) memory' ≡ drop (at + length (b ∷ rest)) memory =

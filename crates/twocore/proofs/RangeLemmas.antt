@@ -1,5 +1,7 @@
 -- The machine keeps the ranges of what it holds, so that what a word reads is as its type says.
-use Rattle.std.proofs.Common.{◌≡◌, ℕ, zero, suc, ◌+◌, ◌-◌, ◌*◌, ◌/◌, ◌%◌, ◌^◌, ◌<◌, ◌≤◌, Bool, true, false, cond, IsTrue, List, [], ◌∷◌, ◌++◌, length, take, drop, map, replicate, Option, Some, None, refl, sym, ap, subst, ◌∙◌, arith, length-append}
+use Rattle.std.proofs.Common.{◌≡◌, ℕ, zero, suc, ◌+◌, ◌-◌, ◌*◌, ◌/◌, ◌%◌, ◌^◌, ◌<◌, ◌≤◌, Bool, true, false, cond, IsTrue, List, []}
+use Rattle.std.proofs.Common.{◌∷◌, ◌++◌, length, take, drop, map, replicate, Option, Some, None, refl, sym, ap, subst, ◌∙◌, arith}
+use Rattle.std.proofs.Common.{length-append}
 use Rattle.std.specs.Prelude.{◌==◌, nat_lt, nat_le, slice_set, slice_index, slice_index_or, bit_or}
 use Rattle.std.specs.List.{AllByRecursion, flat_map, range_with_len}
 use Rattle.std.proofs.lemmas.List.{length-set}
@@ -35,7 +37,8 @@ use Rattle.twocore.specs.declared.spot.Spot.{Spot}
 use Rattle.twocore.specs.declared.spot.Spot.TheVariants.{Own, Other, Shared, Controller, Outside, Nothing}
 use Rattle.twocore.specs.declared.world.World.{World}
 use Rattle.twocore.specs.Memory.{spot_of, put, ram_byte, window_after, private_after}
-use Rattle.twocore.specs.World.{Stage, byte_behind, bytes_in, controller_bytes, controller_after, stored_in, r31_of, led_out, all_led_out, pads_at, pads_with, pads_after}
+use Rattle.twocore.specs.World.{Stage, byte_behind, bytes_in, controller_bytes, controller_after, stored_in}
+use Rattle.twocore.specs.World.{r31_of, led_out, all_led_out, pads_at, pads_with, pads_after}
 use Rattle.twocore.specs.Word.{filled, bytes_for, pads_for, input_for}
 
 abbrev pub AreWords : List ℕ → Type 0
@@ -139,8 +142,10 @@ stored_fits s Nothing bytes fits new = fits
 -- ---- devices
 
 led_fits : (core : ℕ) (world : World) (e : Event) → WorldFits world → WorldFits (led_out core world e)
-led_fits core world (events.Write Reg30 width value) fits = record { shared = fits.shared; outside = fits.outside; pads = fits.pads; inputs = fits.inputs }
-led_fits core world (events.Write Reg31 width value) fits = record { shared = fits.shared; outside = fits.outside; pads = fits.pads; inputs = fits.inputs }
+led_fits core world (events.Write Reg30 width value) fits = record
+    { shared = fits.shared; outside = fits.outside; pads = fits.pads; inputs = fits.inputs }
+led_fits core world (events.Write Reg31 width value) fits = record
+    { shared = fits.shared; outside = fits.outside; pads = fits.pads; inputs = fits.inputs }
 led_fits core world (events.Write (Addr a) width value) fits = fits
 led_fits core world (events.Write (Pad bank reg) width value) fits = fits
 led_fits core world (events.Read place width value) fits = fits
@@ -169,7 +174,8 @@ numbers_fit registers r (suc k) fits = (register_small registers r fits, numbers
 pub pads_after_fits : (banks : List (List ℕ)) (registers : List ℕ) (i : Inst) → AllByRecursion AreWords banks → AreBytes registers
     → AllByRecursion AreWords (pads_after banks registers i)
 pads_after_fits banks registers (inst.Xout t) fits new =
-    pads_with_fits banks (bank_number t.bank) t.first (numbers_from registers t.first t.count) fits (numbers_fit registers t.first t.count new)
+    pads_with_fits banks (bank_number t.bank) t.first (numbers_from registers t.first t.count) fits
+    (numbers_fit registers t.first t.count new)
 pads_after_fits banks registers (inst.Alu op d a b) fits new = fits
 pads_after_fits banks registers (inst.Not d a) fits new = fits
 pads_after_fits banks registers (inst.Jmp to) fits new = fits

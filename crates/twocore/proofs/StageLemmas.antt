@@ -1,5 +1,6 @@
 -- A cycle keeps the ranges of what the machine holds.
-use Rattle.std.proofs.Common.{◌≡◌, ℕ, zero, suc, ◌+◌, ◌-◌, ◌*◌, ◌^◌, ◌<◌, ◌≤◌, Bool, true, false, cond, List, [], ◌∷◌, ◌++◌, length, replicate, Option, Some, None, refl, sym, ap, subst, ◌∙◌, arith}
+use Rattle.std.proofs.Common.{◌≡◌, ℕ, zero, suc, ◌+◌, ◌-◌, ◌*◌, ◌^◌, ◌<◌, ◌≤◌, Bool, true, false, cond, List, [], ◌∷◌, ◌++◌}
+use Rattle.std.proofs.Common.{length, replicate, Option, Some, None, refl, sym, ap, subst, ◌∙◌, arith}
 use Rattle.std.specs.Prelude.{◌==◌, ◌&&◌}
 use Rattle.std.specs.List.{AllByRecursion}
 use Rattle.prunum.specs.Width.{byte_count}
@@ -22,7 +23,8 @@ use Rattle.twocore.specs.World.{Stage, stored_in}
 use Rattle.twocore.specs.Word.{Turned, quiet, beginning, begun_by, begun, input_for, side_after, ended, worked_by, worked, is_going, turned}
 use Rattle.twocore.specs.Machine.{Machine, acts_at, swapped, acted, all_acted, cycle, cycles, side_at_start, world_at_start}
 use Rattle.twocore.proofs.KeepLemmas.{moved}
-use Rattle.twocore.proofs.RangeLemmas.{AreWords, SideFits, WorldFits, StageFits, all_set, zeros_all, zeros_size, stored_fits, all_led_fits, pads_after_fits, input_fits}
+use Rattle.twocore.proofs.RangeLemmas.{AreWords, SideFits, WorldFits, StageFits, all_set, zeros_all, zeros_size}
+use Rattle.twocore.proofs.RangeLemmas.{stored_fits, all_led_fits, pads_after_fits, input_fits}
 use Rattle.twocore.proofs.SteadyLemmas.{acts_are}
 
 -- ---- a core's cycle
@@ -81,8 +83,18 @@ swapped_fits s fits = record { own = fits.other; other = fits.own; world = fits.
 
 started_fits : (b : Bool) (s : Stage) → StageFits s
     → StageFits (cond b (record s { own = record s.own { started = true } }) (record s { other = record s.other { started = true } }))
-started_fits true s fits = record { own = record { core = fits.own.core; window = fits.own.window }; other = fits.other; world = fits.world }
-started_fits false s fits = record { own = fits.own; other = record { core = fits.other.core; window = fits.other.window }; world = fits.world }
+started_fits true s fits = record {
+  own = record { core = fits.own.core; window = fits.own.window };
+  other = fits.other;
+  world =
+      fits.world;
+}
+started_fits false s fits = record {
+  own = fits.own;
+  other = record { core = fits.other.core; window = fits.other.window };
+  world =
+      fits.world;
+}
 
 acted_fits : (s : Stage) (a : Action) → IsAction a → StageFits s → StageFits (acted s a)
 acted_fits s (action.Poke addr width value) is fits =

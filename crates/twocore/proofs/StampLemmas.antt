@@ -1,5 +1,6 @@
 -- The cycles of a trace don't fall, word by word.
-use Rattle.std.proofs.Common.{◌≡◌, ℕ, zero, suc, ◌+◌, ◌%◌, ◌^◌, ◌<◌, ◌≤◌, Bool, true, false, cond, List, [], ◌∷◌, ◌++◌, length, take, map, Option, Some, None, refl, sym, ap, subst, ◌∙◌, arith}
+use Rattle.std.proofs.Common.{◌≡◌, ℕ, zero, suc, ◌+◌, ◌%◌, ◌^◌, ◌<◌, ◌≤◌, Bool, true, false, cond, List, [], ◌∷◌, ◌++◌}
+use Rattle.std.proofs.Common.{length, take, map, Option, Some, None, refl, sym, ap, subst, ◌∙◌, arith}
 use Rattle.std.specs.Prelude.{◌==◌, ◌&&◌, option_map, option_to_list}
 use Rattle.std.specs.List.{AllByRecursion}
 use Rattle.std.proofs.lemmas.List.{append-nil}
@@ -28,7 +29,8 @@ use Rattle.corestep.specs.Memory.{address_of, is_private, ram_after}
 use Rattle.corestep.specs.Pieces.{Piece, pieces, access_event, access_events, bank_number, pad_events}
 use Rattle.corestep.specs.Effect.{Effect, effect, shows, access_place, numbers_from, jump_reads}
 use Rattle.corestep.specs.Given.{given_by}
-use Rattle.corestep.specs.Step.{Stepped, stepped, istep, step_by, given_at, inst_at, notes_at, after_effect, marks_before, marks_behind, value_of_kind}
+use Rattle.corestep.specs.Step.{Stepped, stepped, istep, step_by, given_at, inst_at, notes_at}
+use Rattle.corestep.specs.Step.{after_effect, marks_before, marks_behind, value_of_kind}
 use Rattle.twocore.specs.declared.setup.Setup.{Setup}
 use Rattle.twocore.specs.declared.side.Side.{Side}
 use Rattle.twocore.specs.declared.side.Word.{Word}
@@ -36,7 +38,8 @@ use Rattle.corestep.specs.declared.table.Table.{Table}
 use Rattle.hostscript.specs.declared.script.Script.{Script}
 use Rattle.twocore.specs.Memory.{spot_of}
 use Rattle.twocore.specs.World.{Stage, stored_in}
-use Rattle.twocore.specs.Word.{Turned, quiet, beginning, begun_by, begun, input_for, stamp_of, stamped_by, ended, worked_by, worked, is_going, turned}
+use Rattle.twocore.specs.Word.{Turned, quiet, beginning, begun_by, begun, input_for, stamp_of}
+use Rattle.twocore.specs.Word.{stamped_by, ended, worked_by, worked, is_going, turned}
 use Rattle.twocore.specs.Machine.{Machine, acts_at, swapped, cycle, cycles, at_start_of, M}
 use Rattle.twocore.specs.Alone.{behind_acts, behind_zero}
 use Rattle.twocore.specs.Stamps.{Ascends}
@@ -102,7 +105,8 @@ two_plain false false x y hx hy = tt
 
 reads_plain : (outer : ℕ) (f : Field) → ArePlain (field_reads outer f)
 reads_plain outer f =
-    two_plain (f.reg == 30) (f.reg == 31) (events.Read Reg30 B4 outer) (events.Read Reg31 B4 outer) (λ first last. refl) (λ first last. refl)
+    two_plain (f.reg == 30) (f.reg == 31) (events.Read Reg30 B4 outer) (events.Read Reg31 B4 outer) (λ first last. refl)
+    (λ first last. refl)
 
 operand_plain : (outer : ℕ) (o : Operand) → ArePlain (operand_reads outer o)
 operand_plain outer (operand.Field f) = reads_plain outer f
@@ -228,7 +232,8 @@ module _ (first last : ℕ) where
             (ascends_append first (stamps before) tail (at_ascends first (stamps before) a) tail_ascends (at_to first (stamps before) a)
             (from_less first last tail h tail_from));
         from = subst (From first) (sym whole)
-            (all_append (λ s. first ≤ s.cycle) (stamps before) tail (at_from first (stamps before) a) (from_less first last tail h tail_from));
+            (all_append (λ s. first ≤ s.cycle) (stamps before) tail (at_from first (stamps before) a)
+            (from_less first last tail h tail_from));
         to = subst (To (last + 1)) (sym whole)
             (all_append (λ s. s.cycle ≤ last + 1) (stamps before) tail
             (to_more first (last + 1) (stamps before) (omega arith) (at_to first (stamps before) a)) tail_to);

@@ -1,5 +1,6 @@
 -- The machine of two cores: a cycle of it, and what it shows in so many cycles.
-use Rattle.std.specs.Prelude.{◌≡◌, ℕ, zero, suc, ◌+◌, ◌==◌, Bool, true, false, not, if◌then◌else◌, List, [], ◌∷◌, ◌++◌, filter, replicate, bit_or, ◌^◌}
+use Rattle.std.specs.Prelude.{◌≡◌, ℕ, zero, suc, ◌+◌, ◌==◌, Bool, true, false, not, if◌then◌else◌}
+use Rattle.std.specs.Prelude.{List, [], ◌∷◌, ◌++◌, filter, replicate, bit_or, ◌^◌}
 use Rattle.std.specs.List.{list_any}
 use Rattle.prunum.specs.Width.{byte_count}
 use Rattle.prunum.specs.Bytes.{little_bytes}
@@ -22,7 +23,8 @@ use Rattle.twocore.specs.Memory.{spot_of}
 use Rattle.twocore.specs.World.{Stage, stored_in}
 use Rattle.twocore.specs.Word.{Turned, turned}
 
--- What is given: the acts of the script and, for each core, its number, the cycle table, its image and its arbitration numbers. What there is
+-- What is given: the acts of the script and, for each core, its number, the cycle table, its image and its arbitration numbers.
+-- What there is
 -- after so many cycles: both cores, what they share, and what each has shown.
 pub record Machine : Type 0 where
   pub acts : List Act

@@ -1,4 +1,5 @@
--- What stands where, as a core sees its memory, its own data RAM at 0: the AM335x reference manual, chapter PRU-ICSS. The size of the memory
+-- What stands where, as a core sees its memory, its own data RAM at 0: the AM335x reference manual, chapter PRU-ICSS. The size of
+-- the memory
 -- outside is this project's own.
 use Rattle.std.specs.Prelude.{ℕ, ◌+◌, ◌-◌, nat_lt, if◌then◌else◌, List, [], ◌∷◌, slice_index, slice_set, take, drop}
 use Rattle.memorymap.specs.Windows.{is_within, shared_window, interrupt_window, outside_window}

@@ -1,5 +1,6 @@
 -- A core's cycle. A word takes as many cycles as its table says, and all its effect in the last of them.
-use Rattle.std.specs.Prelude.{ℕ, ◌+◌, ◌-◌, ◌==◌, ◌&&◌, Bool, true, false, if◌then◌else◌, List, [], ◌++◌, map, length, slice_index, Option, Some, None}
+use Rattle.std.specs.Prelude.{ℕ, ◌+◌, ◌-◌, ◌==◌, ◌&&◌, Bool, true, false, if◌then◌else◌, List, []}
+use Rattle.std.specs.Prelude.{◌++◌, map, length, slice_index, Option, Some, None}
 use Rattle.prutrace.specs.declared.event.Event.{Event}
 use Rattle.prutrace.specs.declared.event.Event.TheVariants.{Enter, Leave, DelayIn, DelayOut}
 use Rattle.prutrace.specs.declared.event.Stamped.{Stamped}

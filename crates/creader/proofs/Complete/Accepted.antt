@@ -11,7 +11,8 @@ use Rattle.cgrammar.specs.Kind.{kind_of}
 use Rattle.cgrammar.specs.Terminal.{accepts}
 use Rattle.creader.specs.Rules.{any_accepts}
 use Rattle.cgrammar.specs.Grammar as class
-use Rattle.cgrammar.specs.Grammar.{template, home, under, is_wider, class_number, words_number, operator_level, comparison_level, logical_level, alone, joined}
+use Rattle.cgrammar.specs.Grammar.{template, home, under, is_wider, class_number, words_number}
+use Rattle.cgrammar.specs.Grammar.{operator_level, comparison_level, logical_level, alone, joined}
 use Rattle.cgrammar.specs.Text.{Written, leaf, node, Forest, none, more, IsProper, Match, Stands, IsText, spell, spells}
 use Rattle.creader.specs.Machine.{at, start, Reaches}
 use Rattle.creader.proofs.Complete.Reading.{reader, has_reader, follow, allows, is_statement}
@@ -44,7 +45,8 @@ units-may u e h = go (accepts terminal.End (kind_of e)) h
 
 -- The units of a source are read, and its end.
 forest-accepted : (f : Forest) → Match (template make.Source) f
-    → Reaches (at (symbol.Read part.Units ∷ symbol.Take terminal.End ∷ symbol.Reduce make.Source ∷ []) [] (spells f)) (at [] (node make.Source f ∷ []) [])
+    → Reaches (at (symbol.Read part.Units ∷ symbol.Take terminal.End ∷ symbol.Reduce make.Source ∷ []) [] (spells f))
+    (at [] (node make.Source f ∷ []) [])
 unfolding template Match push reader has_reader
 forest-accepted none m = absurd m
 forest-accepted (more u none) m = absurd m.3

@@ -13,7 +13,8 @@ use Rattle.creader.specs.declared.part.Symbol.TheVariants as symbol
 use Rattle.cgrammar.specs.Kind.{kind_of}
 use Rattle.cgrammar.specs.Terminal.{accepts, keyword_number, punctuator_number}
 use Rattle.cgrammar.specs.Grammar as class
-use Rattle.cgrammar.specs.Grammar.{Piece, template, home, under, is_wider, class_number, words_number, operator_level, comparison_level, logical_level, alone, joined}
+use Rattle.cgrammar.specs.Grammar.{Piece, template, home, under, is_wider, class_number, words_number}
+use Rattle.cgrammar.specs.Grammar.{operator_level, comparison_level, logical_level, alone, joined}
 use Rattle.cgrammar.specs.Text.{Written, leaf, node, Forest, none, more, IsProper, Match, Stands, spell}
 use Rattle.creader.specs.Machine.{at, Reaches}
 use Rattle.creader.proofs.Complete.Reading.{reader, Reads}
@@ -72,9 +73,11 @@ name-no-qualifier kind h = implied _ _ (at-kind (λ k. not (is_named k) || not_q
 
 -- from the stars on
 array-end : (ty st : Written) (n l r : Token) (symbols : List Symbol) (values : List Written) (tokens : List Token)
-    → Match (template make.ArrayParameter) (more ty (more st (more (node make.Identifier (more (leaf n) none)) (more (leaf l) (more (leaf r) none)))))
+    → Match (template make.ArrayParameter) (more ty (more st
+    (more (node make.Identifier (more (leaf n) none)) (more (leaf l) (more (leaf r) none)))))
     → Reaches (at (symbol.Reduce make.NoPointers ∷ symbol.Read part.ParameterTail ∷ symbols) (ty ∷ values) (spell st ++ n ∷ l ∷ r ∷ tokens))
-    (at symbols (node make.ArrayParameter (more ty (more st (more (node make.Identifier (more (leaf n) none)) (more (leaf l) (more (leaf r) none))))) ∷ values) tokens)
+    (at symbols (node make.ArrayParameter (more ty (more st (more (node make.Identifier (more (leaf n) none))
+    (more (leaf l) (more (leaf r) none))))) ∷ values) tokens)
 unfolding template Match IsProper push
 array-end ty st n l r symbols values tokens m =
     let i = m.3.3.1 in
@@ -82,22 +85,29 @@ array-end ty st n l r symbols values tokens m =
     (name-no-qualifier (kind_of n) i.0))
     (join (part-take part.ParameterTail is_named _ symbols (st ∷ ty ∷ values) n (l ∷ r ∷ tokens) tail-name i.0)
     (join (made-step make.Identifier (more (leaf n) none) (symbol.Read part.ParameterEnd ∷ symbols) (st ∷ ty ∷ values) (l ∷ r ∷ tokens) i)
-    (join (part-take part.ParameterEnd is_bracket _ symbols (node make.Identifier (more (leaf n) none) ∷ st ∷ ty ∷ values) l (r ∷ tokens) end-bracket m.3.3.3.0)
-    (join (part-take part.ParameterLength is_closing _ symbols (leaf l ∷ node make.Identifier (more (leaf n) none) ∷ st ∷ ty ∷ values) r tokens length-closing m.3.3.3.3.0)
-    (made-step make.ArrayParameter (more ty (more st (more (node make.Identifier (more (leaf n) none)) (more (leaf l) (more (leaf r) none))))) symbols values tokens m)))))
+    (join (part-take part.ParameterEnd is_bracket _ symbols (node make.Identifier (more (leaf n) none) ∷ st ∷ ty ∷ values) l
+    (r ∷ tokens) end-bracket m.3.3.3.0)
+    (join (part-take part.ParameterLength is_closing _ symbols
+    (leaf l ∷ node make.Identifier (more (leaf n) none) ∷ st ∷ ty ∷ values) r tokens length-closing m.3.3.3.3.0)
+    (made-step make.ArrayParameter (more ty (more st (more (node make.Identifier (more (leaf n) none))
+    (more (leaf l) (more (leaf r) none))))) symbols values tokens m)))))
 
 -- what stands behind the type, as if there were pointers of any kind
 abbrev array_pieces : List Piece
-array_pieces = class.part class.pointers ∷ class.part class.identifier ∷ class.token (sign punctuator.LeftBracket) ∷ class.token (sign punctuator.RightBracket) ∷ []
+array_pieces = class.part class.pointers ∷ class.part class.identifier ∷ class.token (sign punctuator.LeftBracket)
+    ∷ class.token (sign punctuator.RightBracket) ∷ []
 
 -- with a name written out
 array-named : (ty st : Written) (n l r : Token)
-    → Match (template make.ArrayParameter) (more ty (more st (more (node make.Identifier (more (leaf n) none)) (more (leaf l) (more (leaf r) none)))))
-    → Known ty → Reads class.parameter (node make.ArrayParameter (more ty (more st (more (node make.Identifier (more (leaf n) none)) (more (leaf l) (more (leaf r) none))))))
+    → Match (template make.ArrayParameter) (more ty (more st
+    (more (node make.Identifier (more (leaf n) none)) (more (leaf l) (more (leaf r) none)))))
+    → Known ty → Reads class.parameter (node make.ArrayParameter
+    (more ty (more st (more (node make.Identifier (more (leaf n) none)) (more (leaf l) (more (leaf r) none))))))
 unfolding ready_check template reader Match
 array-named ty st n l r m known = reads-from class.parameter _ (λ symbols values tokens b.
     let g = more st (more (node make.Identifier (more (leaf n) none)) (more (leaf l) (more (leaf r) none))) in
-    let b' = begins-as (may_follow class.parameter (node make.ArrayParameter (more ty g))) (after_of make.ArrayParameter) tokens (node-after make.ArrayParameter (more ty g)) b in
+    let b' = begins-as (may_follow class.parameter (node make.ArrayParameter (more ty g))) (after_of make.ArrayParameter) tokens
+    (node-after make.ArrayParameter (more ty g)) b in
     let front = type-front array_pieces ty g (after_of make.ArrayParameter) symbols values tokens refl refl
     (m.0, m.1, m.2, (stars-pointers st m.3.0, m.3.1, m.3.2, m.3.3)) known b' in
     join front (rw (append_assoc (spell st) (n ∷ l ∷ r ∷ []) tokens) (array-end ty st n l r symbols values tokens m)))

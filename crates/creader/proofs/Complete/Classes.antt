@@ -29,7 +29,8 @@ words_classes =
 
 -- the class of a number
 unfoldable class_of : ℕ → Class
-class_of n = if nat_le 100 n then class.level (n - 100) else or_nothing (if nat_le 80 n then entry (n - 80) words_classes else entry n plain_classes)
+class_of n = if nat_le 100 n then class.level (n - 100) else or_nothing
+    (if nat_le 80 n then entry (n - 80) words_classes else entry n plain_classes)
 
 -- each class is that of its number
 class_of-number : (c : Class) → class_of (class_number c) ≡ c

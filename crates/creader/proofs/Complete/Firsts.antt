@@ -21,7 +21,9 @@ use Rattle.cgrammar.specs.Kind.{kind_of}
 use Rattle.cgrammar.specs.Terminal.{accepts, keyword_number, punctuator_number}
 use Rattle.creader.specs.Rules.{any_accepts}
 use Rattle.cgrammar.specs.Grammar as class
-use Rattle.cgrammar.specs.Grammar.{Class, Piece, token, part, template, home, under, is_wider, operator_level, operator_token, comparison_level, comparison_token, logical_level, logical_token, assignment_token, word_token, alone, before, joined}
+use Rattle.cgrammar.specs.Grammar.{Class, Piece, token, part, template, home, under, is_wider, operator_level, operator_token}
+use Rattle.cgrammar.specs.Grammar.{comparison_level, comparison_token, logical_level, logical_token, assignment_token, word_token}
+use Rattle.cgrammar.specs.Grammar.{alone, before, joined}
 use Rattle.cgrammar.specs.Text.{Written, leaf, node, Forest, none, more, IsProper, Match, Stands, spell, spells}
 use Rattle.creader.proofs.Complete.Classes.{under-ways}
 use Rattle.creader.proofs.Complete.Kinds.{every_kind, at-kind, kinds, each}
@@ -44,7 +46,8 @@ abbrev type_starts : List Terminal
 type_starts = terminal.Specifier ∷ word keyword.Void ∷ word keyword.Struct ∷ terminal.Standard ∷ integer_words
 
 abbrev statement_starts : List Terminal
-statement_starts = sign punctuator.LeftBrace ∷ word keyword.If ∷ word keyword.While ∷ word keyword.Do ∷ word keyword.For ∷ word keyword.Switch ∷ word keyword.Break
+statement_starts = sign punctuator.LeftBrace ∷ word keyword.If ∷ word keyword.While ∷ word keyword.Do ∷ word keyword.For
+    ∷ word keyword.Switch ∷ word keyword.Break
     ∷ word keyword.Continue ∷ word keyword.Return ∷ word keyword.Region ∷ sign punctuator.Semicolon ∷ expression_starts
 
 abbrev label_starts : List Terminal
@@ -144,7 +147,8 @@ Begins test [] = ⊥
 Begins test (t ∷ _) = test (kind_of t) ≡ true
 
 -- a weaker test is passed too
-pub begins-as : (test test' : Kind → Bool) (tokens : List Token) → ((kind : Kind) → test kind ≡ true → test' kind ≡ true) → Begins test tokens → Begins test' tokens
+pub begins-as : (test test' : Kind → Bool) (tokens : List Token) → ((kind : Kind) → test kind ≡ true → test' kind ≡ true)
+    → Begins test tokens → Begins test' tokens
 begins-as test test' [] weaker h = h
 begins-as test test' (t ∷ _) weaker h = weaker (kind_of t) h
 
@@ -166,9 +170,11 @@ unfolding may_begin all_nullable
 begin-ways [] after kind h = h
 begin-ways (token t ∷ pieces) after kind h = or_left (accepts t kind) _ h
 begin-ways (part c ∷ pieces) after kind h =
-    ways (any_accepts (firsts c) kind) (nullable c) (may_begin pieces after kind) (may_begin pieces never kind) (all_nullable pieces) (after kind) h (begin-ways pieces after kind)
+    ways (any_accepts (firsts c) kind) (nullable c) (may_begin pieces after kind) (may_begin pieces never kind)
+    (all_nullable pieces) (after kind) h (begin-ways pieces after kind)
   where
-    ways : (f n m m' l a : Bool) → (f || (n && m)) ≡ true → (m ≡ true → (m' || (l && a)) ≡ true) → ((f || (n && m')) || ((n && l) && a)) ≡ true
+    ways : (f n m m' l a : Bool) → (f || (n && m)) ≡ true → (m ≡ true → (m' || (l && a)) ≡ true)
+        → ((f || (n && m')) || ((n && l) && a)) ≡ true
     ways true n m m' l a h ih = refl
     ways false true m m' l a h ih = ih h
     ways false false m m' l a h ih = h
@@ -180,8 +186,10 @@ closed p = every_kind (λ kind. not (may_begin (template p) never kind) || any_a
 
 -- as is computed
 closed-all : (p : Production) → closed p ≡ true
-unfolding closed every_kind kinds each may_begin all_nullable template home firsts nullable any_accepts accepts keyword_number punctuator_number
-    operator_level operator_token comparison_level comparison_token logical_level logical_token assignment_token word_token alone before joined
+unfolding closed every_kind kinds each may_begin all_nullable template home firsts nullable any_accepts accepts keyword_number
+    punctuator_number
+    operator_level operator_token comparison_level comparison_token logical_level logical_token assignment_token word_token alone
+    before joined
 closed-all (make.Binary operator.Multiply) = refl
 closed-all (make.Binary _) = refl
 closed-all (make.Comparison comparison.Less) = refl
@@ -271,11 +279,13 @@ production-begins p c u test kind h =
 mutual
   unfolding IsProper may_begin
 
-  pub written-begins : (w : Written) → IsProper w → (c : Class) → Stands (part c) w → (test : Kind → Bool) (tokens : List Token) → Begins test tokens
+  pub written-begins : (w : Written) → IsProper w → (c : Class) → Stands (part c) w → (test : Kind → Bool) (tokens : List Token)
+      → Begins test tokens
       → Begins (λ kind. any_accepts (firsts c) kind || (nullable c && test kind)) (spell w ++ tokens)
   written-begins (leaf t) m c s test tokens b = absurd s
   written-begins (node p f) m c s test tokens b =
-      begins-as (may_begin (template p) test) _ (spells f ++ tokens) (production-begins p c s test) (forest-begins f (template p) m test tokens b)
+      begins-as (may_begin (template p) test) _ (spells f ++ tokens) (production-begins p c s test)
+      (forest-begins f (template p) m test tokens b)
 
   pub forest-begins : (f : Forest) (pieces : List Piece) → Match pieces f → (test : Kind → Bool) (tokens : List Token) → Begins test tokens
       → Begins (may_begin pieces test) (spells f ++ tokens)

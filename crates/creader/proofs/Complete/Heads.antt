@@ -1,6 +1,7 @@
 -- How expressions are read. An expression of level m that is read where one of level n ≤ m is wanted leaves symbols behind it, by which
 -- the reader goes on to a longer expression or drops them: so an operator behind it is read by what is left.
-use Rattle.std.specs.Prelude.{◌≡◌, ℕ, ◌+◌, Bool, true, false, not, ◌&&◌, nat_le, nat_eq, List, [], ◌∷◌, ◌++◌, map, filter, Option, Some, None, if◌then◌else◌}
+use Rattle.std.specs.Prelude.{◌≡◌, ℕ, ◌+◌, Bool, true, false, not, ◌&&◌, nat_le, nat_eq, List, [], ◌∷◌}
+use Rattle.std.specs.Prelude.{◌++◌, map, filter, Option, Some, None, if◌then◌else◌}
 use Rattle.csyn.specs.declared.token.Token.{Token}
 use Rattle.csyn.specs.declared.punctuator.Punctuator.TheVariants as punctuator
 use Rattle.cgrammar.specs.declared.kind.Kind.{Kind}
@@ -133,7 +134,8 @@ pub record Behind (w : Written) : Type 0 where
   pub inside : accepts (sign punctuator.LeftParenthesis) (kind_of first) ≡ true → (next : Token) (tokens : List Token)
       → Begins starts_expression (rest ++ next ∷ tokens)
   pub reads : (symbols : List Symbol) (values : List Written) (next : Token) (tokens : List Token) → Ends w (kind_of next)
-      → Reaches (at (inner (kind_of first) ++ symbols) (leaf first ∷ values) (rest ++ next ∷ tokens)) (at (tail_of w ++ symbols) (w ∷ values)
+      → Reaches (at (inner (kind_of first) ++ symbols) (leaf first ∷ values) (rest ++ next ∷ tokens))
+      (at (tail_of w ++ symbols) (w ∷ values)
       (next ∷ tokens))
 
 -- What is known of an expression: that it is read where one of its level or a looser one is wanted, with what is left then.

@@ -1,5 +1,6 @@
 -- What is known of a tree makes it read as each class of which it is.
-use Rattle.std.proofs.Common.{◌≡◌, ℕ, ◌+◌, ◌<◌, ◌≤◌, Bool, true, false, ◌||◌, ◌⊎◌, nat_eq, nat_le, [], ◌∷◌, refl, sym, subst, inl, inr, true≢false, arith, lit<}
+use Rattle.std.proofs.Common.{◌≡◌, ℕ, ◌+◌, ◌<◌, ◌≤◌, Bool, true, false, ◌||◌, ◌⊎◌, nat_eq, nat_le, [], ◌∷◌}
+use Rattle.std.proofs.Common.{refl, sym, subst, inl, inr, true≢false, arith, lit<}
 use Rattle.std.proofs.lemmas.Bool.{or_cases, eqb-true, leb-true, le-leb, ne_eqb, cases_lt}
 use Rattle.cgrammar.specs.declared.production.Production.{Production}
 use Rattle.cgrammar.specs.declared.production.Words.{Words}
@@ -9,7 +10,8 @@ use Rattle.cgrammar.specs.Grammar as class
 use Rattle.cgrammar.specs.Grammar.{Class, under, home, class_number, words_number, is_wider}
 use Rattle.cgrammar.specs.Text.{Written, leaf, node, Forest, Stands}
 use Rattle.creader.proofs.Complete.Reading.{Reads, reader, has_reader, level_reader, chain_of, chain_part, follow, allows, is_statement}
-use Rattle.creader.proofs.Complete.Heads.{Heads, Known, known_as, is_expression, is_level, level_of, levels_of, left, left_numbers, is_name_node, is_bare_name, barred_of}
+use Rattle.creader.proofs.Complete.Heads.{Heads, Known, known_as, is_expression, is_level, level_of, levels_of, left}
+use Rattle.creader.proofs.Complete.Heads.{left_numbers, is_name_node, is_bare_name, barred_of}
 use Rattle.creader.proofs.Complete.Steps.{join}
 use Rattle.creader.proofs.Complete.Expressions.Tails.{allowed, expression-ends, expression-level, gone-reaches, left-gone}
 
@@ -121,7 +123,8 @@ only_levels class.callee class.callee e u r = absurd (true≢false (sym r))
 only_levels class.callee _ e u r = absurd (true≢false (sym u))
 only_levels _ _ e u r = absurd (true≢false (sym e))
 
-known_as_reads : (b : Bool) (p : Production) (f : Forest) (c : Class) → is_expression p ≡ b → known_as b p (node p f) → under (home p) c ≡ true
+known_as_reads : (b : Bool) (p : Production) (f : Forest) (c : Class) → is_expression p ≡ b → known_as b p (node p f)
+    → under (home p) c ≡ true
     → has_reader c ≡ true
     → Reads c (node p f)
 unfolding known_as is_expression

@@ -24,8 +24,11 @@ use Rattle.creader.proofs.Complete.Steps.{join, reduce-step, push}
 use Rattle.creader.proofs.Complete.Firsts.{sign, may_begin, Begins, begins-as, forest-begins, no}
 use Rattle.creader.proofs.Complete.Sequence.{may_follow, reads-before, reads-from, readers, ends_open, fits, child-may, sequence-reads}
 use Rattle.creader.proofs.Complete.Plain.{after_of, ready_check, node-after}
-use Rattle.creader.proofs.Complete.Rule.{rule_check, rule_shape, Chosen, part-take, part-stay, stay-at, made-step, back-reduce, back-accepts, back-take-token, back-take, back-stay, hungry, no-tokens, refuse_check, refused}
-use Rattle.creader.proofs.Complete.Pointers.{is_star, is_qualifier, not_qualifier, not_star, pointers-first, stars-tail, stars-end, parameter-tail}
+use Rattle.creader.proofs.Complete.Rule.{rule_check, rule_shape, Chosen, part-take, part-stay, stay-at, made-step, back-reduce}
+use Rattle.creader.proofs.Complete.Rule.{back-accepts, back-take-token, back-take, back-stay, hungry, no-tokens, refuse_check}
+use Rattle.creader.proofs.Complete.Rule.{refused}
+use Rattle.creader.proofs.Complete.Pointers.{is_star, is_qualifier, not_qualifier, not_star, pointers-first}
+use Rattle.creader.proofs.Complete.Pointers.{stars-tail, stars-end, parameter-tail}
 
 -- some tokens
 abbrev pub is_bracket : Kind → Bool
@@ -52,14 +55,17 @@ named = symbol.Take terminal.Name ∷ identified
 
 -- what stands behind an opening bracket
 abbrev one_length : List Symbol
-one_length = symbol.Read part.Expression ∷ symbol.Take (sign punctuator.RightBracket) ∷ symbol.Read part.Lengths ∷ symbol.Reduce make.Length ∷ []
+one_length = symbol.Read part.Expression ∷ symbol.Take (sign punctuator.RightBracket) ∷ symbol.Read part.Lengths
+    ∷ symbol.Reduce make.Length ∷ []
 
 -- what stands behind a star, from a qualifier on
 abbrev qualified : List Symbol
-qualified = symbol.Read part.Qualifiers ∷ symbol.Reduce make.Qualified ∷ symbol.Reduce make.QualifiedPointer ∷ symbol.Read part.PointersTail ∷ []
+qualified = symbol.Read part.Qualifiers ∷ symbol.Reduce make.Qualified ∷ symbol.Reduce make.QualifiedPointer
+    ∷ symbol.Read part.PointersTail ∷ []
 
 -- the rules by which a parameter is read
-parameter-first : Chosen part.Parameter (λ _. true) move.Stay (symbol.Read part.Type ∷ symbol.Reduce make.NoPointers ∷ symbol.Read part.ParameterTail ∷ [])
+parameter-first : Chosen part.Parameter (λ _. true) move.Stay
+    (symbol.Read part.Type ∷ symbol.Reduce make.NoPointers ∷ symbol.Read part.ParameterTail ∷ [])
 unfolding rule_check rule_shape
 parameter-first = record { index = 0; checked = refl; found = refl }
 
@@ -116,15 +122,18 @@ end-join symbols values others (y ∷ tokens) left reached = go (is_bracket (kin
             → Reaches (at (symbol.Read part.ParameterLength ∷ symbols) (leaf y ∷ values) (z ∷ tokens)) (at symbols others left)
         closing true b = absurd (refused (one_length ++ ended) symbols (leaf y ∷ values) others is_closing z tokens left refl b inside)
         closing false b =
-            join (part-stay part.ParameterLength (λ k. not (is_closing k)) _ symbols (leaf y ∷ values) z tokens length-other (not_from_false _ b)) inside
+            join (part-stay part.ParameterLength (λ k. not (is_closing k)) _ symbols (leaf y ∷ values) z tokens length-other
+            (not_from_false _ b)) inside
 
-    go : (b : Bool) → is_bracket (kind_of y) ≡ b → Reaches (at (symbol.Read part.ParameterEnd ∷ symbols) values (y ∷ tokens)) (at symbols others left)
+    go : (b : Bool) → is_bracket (kind_of y) ≡ b → Reaches (at (symbol.Read part.ParameterEnd ∷ symbols) values (y ∷ tokens))
+        (at symbols others left)
     go true b =
         join (part-take part.ParameterEnd is_bracket _ symbols values y tokens end-bracket b)
         (length-join tokens (back-take ended symbols values others left part.Lengths is_bracket _ y tokens lengths-bracket b reached))
     go false b =
         join (part-stay part.ParameterEnd (λ k. not (is_bracket k)) _ symbols values y tokens end-other (not_from_false _ b))
-        (back-stay ended symbols values others left part.Lengths (λ k. not (is_bracket k)) _ y tokens lengths-other (not_from_false _ b) reached)
+        (back-stay ended symbols values others left part.Lengths (λ k. not (is_bracket k)) _ y tokens lengths-other
+        (not_from_false _ b) reached)
 
 -- the name itself
 name-join : (symbols : List Symbol) (values others : List Written) (x : Token) (tokens left : List Token) → is_star (kind_of x) ≡ false
@@ -154,15 +163,18 @@ star-join symbols values others x (y ∷ tokens) left s again reached = go (is_q
     inside : Reaches (at (symbol.Read part.AfterStar ∷ named ++ symbols) (leaf x ∷ values) (y ∷ tokens)) (at symbols others left)
     inside = back-take named symbols values others left part.StarsTail is_star _ x (y ∷ tokens) stars-tail.starred s reached
 
-    go : (q : Bool) → is_qualifier (kind_of y) ≡ q → Reaches (at (symbol.Read part.ParameterTail ∷ symbols) values (x ∷ y ∷ tokens)) (at symbols others left)
+    go : (q : Bool) → is_qualifier (kind_of y) ≡ q → Reaches (at (symbol.Read part.ParameterTail ∷ symbols) values (x ∷ y ∷ tokens))
+        (at symbols others left)
     go true q =
         join (part-take part.ParameterTail is_star _ symbols values x (y ∷ tokens) parameter-tail.starred s)
         (join (part-take part.ParameterAfterStar is_qualifier _ symbols (leaf x ∷ values) y tokens star-qualifier q)
         (back-take named symbols (leaf x ∷ values) others left part.AfterStar is_qualifier _ y tokens after-qualifier q inside))
     go false q =
-        let stay = back-stay named symbols (leaf x ∷ values) others left part.AfterStar not_qualifier _ y tokens stars-tail.bare (not_from_false _ q) inside in
+        let stay = back-stay named symbols (leaf x ∷ values) others left part.AfterStar not_qualifier _ y tokens stars-tail.bare
+        (not_from_false _ q) inside in
         join (part-take part.ParameterTail is_star _ symbols values x (y ∷ tokens) parameter-tail.starred s)
-        (join (part-stay part.ParameterAfterStar not_qualifier _ symbols (leaf x ∷ values) y tokens parameter-tail.bare (not_from_false _ q))
+        (join (part-stay part.ParameterAfterStar not_qualifier _ symbols (leaf x ∷ values) y tokens parameter-tail.bare
+        (not_from_false _ q))
         (join (reduce-step make.Star (symbol.Read part.ParameterTail ∷ symbols) (leaf x ∷ values) (y ∷ tokens))
         (again (reduce make.Star (leaf x ∷ values))
         (back-reduce (symbol.Read part.StarsTail ∷ named) symbols (leaf x ∷ values) others left make.Star (y ∷ tokens) stay))))
@@ -172,7 +184,8 @@ tail-join : (symbols : List Symbol) (values others : List Written) (tokens left 
     → Reaches (at (symbol.Read part.StarsTail ∷ named ++ symbols) values tokens) (at symbols others left)
     → Reaches (at (symbol.Read part.ParameterTail ∷ symbols) values tokens) (at symbols others left)
 unfolding hungry
-tail-join symbols values others [] left reached = absurd (no-tokens (symbol.Read part.StarsTail ∷ named) symbols values others left refl reached)
+tail-join symbols values others [] left reached = absurd (no-tokens (symbol.Read part.StarsTail ∷ named) symbols values others left
+    refl reached)
 tail-join symbols values others (x ∷ tokens) left reached =
     ways symbols values others x tokens left (λ values' reached'. tail-join symbols values' others tokens left reached') reached
   where
@@ -183,7 +196,8 @@ tail-join symbols values others (x ∷ tokens) left reached =
         → Reaches (at (symbol.Read part.ParameterTail ∷ symbols) values (x ∷ tokens)) (at symbols others left)
     ways symbols values others x tokens left again reached = go (is_star (kind_of x)) refl
       where
-        go : (s : Bool) → is_star (kind_of x) ≡ s → Reaches (at (symbol.Read part.ParameterTail ∷ symbols) values (x ∷ tokens)) (at symbols others left)
+        go : (s : Bool) → is_star (kind_of x) ≡ s → Reaches (at (symbol.Read part.ParameterTail ∷ symbols) values (x ∷ tokens))
+            (at symbols others left)
         go true s = star-join symbols values others x tokens left s again reached
         go false s = name-join symbols values others x tokens left s reached
 
@@ -192,7 +206,8 @@ pointers-join : (symbols : List Symbol) (values others : List Written) (tokens l
     → Reaches (at (symbol.Read part.Pointers ∷ named ++ symbols) values tokens) (at symbols others left)
     → Reaches (at (symbol.Reduce make.NoPointers ∷ symbol.Read part.ParameterTail ∷ symbols) values tokens) (at symbols others left)
 unfolding hungry
-pointers-join symbols values others [] left reached = absurd (no-tokens (symbol.Read part.Pointers ∷ named) symbols values others left refl reached)
+pointers-join symbols values others [] left reached = absurd
+    (no-tokens (symbol.Read part.Pointers ∷ named) symbols values others left refl reached)
 pointers-join symbols values others (x ∷ tokens) left reached =
     let stay = back-stay named symbols values others left part.Pointers (λ _. true) _ x tokens pointers-first refl reached in
     join (reduce-step make.NoPointers (symbol.Read part.ParameterTail ∷ symbols) values (x ∷ tokens))
@@ -200,7 +215,8 @@ pointers-join symbols values others (x ∷ tokens) left reached =
     (back-reduce (symbol.Read part.StarsTail ∷ named) symbols values others left make.NoPointers (x ∷ tokens) stay))
 
 -- the type of a parameter
-pub type-front : (pieces : List Piece) (ty : Written) (g : Forest) (after : Kind → Bool) (symbols : List Symbol) (values : List Written) (tokens : List Token)
+pub type-front : (pieces : List Piece) (ty : Written) (g : Forest) (after : Kind → Bool) (symbols : List Symbol)
+    (values : List Written) (tokens : List Token)
     → fits (class.part class.«type» ∷ pieces) after ≡ true → ends_open (class.part class.«type» ∷ pieces) ≡ false
     → Match (class.part class.«type» ∷ pieces) (more ty g) → Known ty → Begins after tokens
     → Reaches (at (symbol.Read part.Parameter ∷ symbols) values ((spell ty ++ spells g) ++ tokens))
@@ -212,7 +228,8 @@ type-front pieces ty g after symbols values tokens h o m known b =
     let first = stay-at part.Parameter (λ _. true) _ symbols values ((spell ty ++ spells g) ++ tokens) parameter-first
     (begins-as (may_begin (class.part class.«type» ∷ pieces) after) (λ _. true) ((spell ty ++ spells g) ++ tokens) (λ _ _. refl)
     (forest-begins (more ty g) (class.part class.«type» ∷ pieces) m after tokens b)) in
-    join first (rw append_assoc (reads-before class.«type» ty r (symbol.Reduce make.NoPointers ∷ symbol.Read part.ParameterTail ∷ symbols) values (spells g ++ tokens) may))
+    join first (rw append_assoc (reads-before class.«type» ty r
+    (symbol.Reduce make.NoPointers ∷ symbol.Read part.ParameterTail ∷ symbols) values (spells g ++ tokens) may))
 
 -- its parts may stand before one another
 parameter-fits : fits (template make.Parameter) (after_of make.Parameter) ≡ true
@@ -227,7 +244,8 @@ parameter-reads (more ty g) m known = reads-from class.parameter (node make.Para
     let w = node make.Parameter (more ty g) in
     let b' = begins-as (may_follow class.parameter w) (after_of make.Parameter) tokens (node-after make.Parameter (more ty g)) b in
     let pieces = class.part class.pointers ∷ class.part class.identifier ∷ class.part class.lengths ∷ [] in
-    let others = sequence-reads pieces g (after_of make.Parameter) (symbol.Reduce make.Parameter ∷ symbols) (ty ∷ values) tokens refl m.3 known.1 b' (λ e. absurd (no e)) in
+    let others = sequence-reads pieces g (after_of make.Parameter) (symbol.Reduce make.Parameter ∷ symbols) (ty ∷ values) tokens
+    refl m.3 known.1 b' (λ e. absurd (no e)) in
     join (type-front pieces ty g (after_of make.Parameter) symbols values tokens parameter-fits refl m known.0 b')
     (pointers-join symbols (ty ∷ values) (w ∷ values) (spells g ++ tokens) tokens
     (join others (made-step make.Parameter (more ty g) symbols values tokens m))))

@@ -24,7 +24,8 @@ use Rattle.creader.proofs.Complete.Steps.{join, push}
 use Rattle.creader.proofs.Complete.Firsts.{sign, word, begins-as}
 use Rattle.creader.proofs.Complete.Sequence.{may_follow, reads-from, readers}
 use Rattle.creader.proofs.Complete.Plain.{ready_check, expanded}
-use Rattle.creader.proofs.Complete.Rule.{rule_check, rule_shape, Chosen, part-take, part-stay, stay-at, made-step, back-take, back-stay, hungry, no-tokens, refuse_check, refused}
+use Rattle.creader.proofs.Complete.Rule.{rule_check, rule_shape, Chosen, part-take, part-stay, stay-at, made-step}
+use Rattle.creader.proofs.Complete.Rule.{back-take, back-stay, hungry, no-tokens, refuse_check, refused}
 
 -- some tokens
 abbrev is_void : Kind → Bool
@@ -54,7 +55,8 @@ parameters-void : Chosen part.Parameters is_void move.Take (symbol.Read part.Aft
 unfolding rule_check rule_shape
 parameters-void = record { index = 1; checked = refl; found = refl }
 
-parameters-other : Chosen part.Parameters (λ k. not (is_right k) && not (is_void k)) move.Stay (symbol.Read part.Parameter ∷ some_parameters)
+parameters-other : Chosen part.Parameters (λ k. not (is_right k) && not (is_void k)) move.Stay
+    (symbol.Read part.Parameter ∷ some_parameters)
 unfolding rule_check rule_shape
 parameters-other = record { index = 2; checked = refl; found = refl }
 
@@ -66,7 +68,8 @@ void-other : Chosen part.AfterVoid (λ k. not (is_right k)) move.Stay void_param
 unfolding rule_check rule_shape
 void-other = record { index = 1; checked = refl; found = refl }
 
-parameter-first : Chosen part.Parameter (λ _. true) move.Stay (symbol.Read part.Type ∷ symbol.Reduce make.NoPointers ∷ symbol.Read part.ParameterTail ∷ [])
+parameter-first : Chosen part.Parameter (λ _. true) move.Stay
+    (symbol.Read part.Type ∷ symbol.Reduce make.NoPointers ∷ symbol.Read part.ParameterTail ∷ [])
 unfolding rule_check rule_shape
 parameter-first = record { index = 0; checked = refl; found = refl }
 
@@ -118,12 +121,14 @@ void-join symbols values others x [] left v reached =
 void-join symbols values others x (y ∷ tokens) left v reached =
     go (is_right (kind_of y)) refl (void-inside symbols values others x (y ∷ tokens) left v reached)
   where
-    go : (b : Bool) → is_right (kind_of y) ≡ b → Reaches (at (void_parameters ++ symbols) (leaf x ∷ values) (y ∷ tokens)) (at symbols others left)
+    go : (b : Bool) → is_right (kind_of y) ≡ b → Reaches (at (void_parameters ++ symbols) (leaf x ∷ values) (y ∷ tokens))
+        (at symbols others left)
         → Reaches (at (symbol.Read part.Parameters ∷ symbols) values (x ∷ y ∷ tokens)) (at symbols others left)
     go true b inside = absurd (refused void_parameters symbols (leaf x ∷ values) others is_right y tokens left refl b inside)
     go false b inside =
         join (part-take part.Parameters is_void _ symbols values x (y ∷ tokens) parameters-void v)
-        (join (part-stay part.AfterVoid (λ k. not (is_right k)) _ symbols (leaf x ∷ values) y tokens void-other (not_from_false (is_right (kind_of y)) b)) inside)
+        (join (part-stay part.AfterVoid (λ k. not (is_right k)) _ symbols (leaf x ∷ values) y tokens void-other
+        (not_from_false (is_right (kind_of y)) b)) inside)
 
 -- parameters, by what they begin with
 parameters-join : (symbols : List Symbol) (values others : List Written) (tokens left : List Token)
@@ -136,7 +141,8 @@ parameters-join symbols values others (x ∷ tokens) left reached = go (is_right
   where
     go : (r v : Bool) → is_right (kind_of x) ≡ r → is_void (kind_of x) ≡ v
         → Reaches (at (symbol.Read part.Parameters ∷ symbols) values (x ∷ tokens)) (at symbols others left)
-    go true v e e' = absurd (refused (symbol.Read part.Parameter ∷ some_parameters) symbols values others is_right x tokens left refl e reached)
+    go true v e e' = absurd (refused (symbol.Read part.Parameter ∷ some_parameters) symbols values others is_right x tokens left
+        refl e reached)
     go false true e e' = void-join symbols values others x tokens left e' reached
     go false false e e' =
         join (part-stay part.Parameters (λ k. not (is_right k) && not (is_void k)) _ symbols values x tokens parameters-other
@@ -146,4 +152,5 @@ parameters-join symbols values others (x ∷ tokens) left reached = go (is_right
 pub some-reads : (f : Forest) → Match (template make.SomeParameters) f → AllKnown f → Reads class.parameters (node make.SomeParameters f)
 unfolding ready_check template home reader readers
 some-reads f m known = reads-from class.parameters (node make.SomeParameters f) (λ symbols values tokens b.
-    parameters-join symbols values (node make.SomeParameters f ∷ values) _ tokens (expanded make.SomeParameters f refl m known symbols values tokens b))
+    parameters-join symbols values (node make.SomeParameters f ∷ values) _ tokens
+    (expanded make.SomeParameters f refl m known symbols values tokens b))

@@ -21,12 +21,14 @@ use Rattle.cgrammar.specs.Grammar as class
 use Rattle.cgrammar.specs.Grammar.{Piece, token, part, template, home}
 use Rattle.cgrammar.specs.Text.{Written, leaf, node, Forest, Match, spells, dangles, last_dangles, ends_with_statement, is_if_without_else}
 use Rattle.creader.specs.Machine.{State, at, Reaches, step}
-use Rattle.creader.proofs.Complete.Reading.{reader, level_reader, follow, allows, extenders, operators_from, is_statement, has_reader, Reads}
+use Rattle.creader.proofs.Complete.Reading.{reader, level_reader, follow, allows, extenders}
+use Rattle.creader.proofs.Complete.Reading.{operators_from, is_statement, has_reader, Reads}
 use Rattle.creader.proofs.Complete.Heads.{AllKnown}
 use Rattle.creader.proofs.Complete.Kinds.{entry, kinds, each, every_kind, at-kind}
 use Rattle.creader.proofs.Complete.Steps.{join, after-step, longer, read-step, reduce-step, chosen, choose-at, push, reduce-push}
 use Rattle.creader.proofs.Complete.Firsts.{firsts, nullable, may_begin, Begins, begins-as, implied, forest-begins, no}
-use Rattle.creader.proofs.Complete.Sequence.{may_follow, reads-from, readers, before_end, ends_open, fits, Ends, statement-follow, sequence-reads}
+use Rattle.creader.proofs.Complete.Sequence.{may_follow, reads-from, readers, before_end, ends_open, fits}
+use Rattle.creader.proofs.Complete.Sequence.{Ends, statement-follow, sequence-reads}
 
 -- before which tokens a production's tree may stand at most
 unfoldable pub after_of : Production → Kind → Bool
@@ -38,7 +40,8 @@ ready p = fits (template p) (after_of p) && (not (ends_open (template p)) || (en
 
 -- the same, to be computed
 unfoldable pub ready_check : Production → Bool
-unfolding ready after_of kinds each every_kind fits before_end ends_open may_begin firsts nullable template home reader level_reader follow allows
+unfolding ready after_of kinds each every_kind fits before_end ends_open may_begin firsts nullable template home reader level_reader
+    follow allows
     extenders operators_from is_statement has_reader any_accepts accepts keyword_number punctuator_number
 ready_check p = ready p
 
@@ -69,7 +72,8 @@ later p f kind e s h =
     go true n false l a a' s e same h = absurd (no e)
 
 -- and so the tokens do
-node-ends : (p : Production) (f : Forest) (tokens : List Token) → (not (ends_open (template p)) || (ends_with_statement p && is_statement (home p))) ≡ true
+node-ends : (p : Production) (f : Forest) (tokens : List Token)
+    → (not (ends_open (template p)) || (ends_with_statement p && is_statement (home p))) ≡ true
     → Begins (may_follow (home p) (node p f)) tokens → Ends (template p) f tokens
 unfolding dangles
 node-ends p f tokens h b o =
@@ -188,7 +192,8 @@ plain_rule_for p = if is_plain p then Some (rule_for (template p) p) else None
 
 -- as is computed
 plain-rule : (p : Production) → plain_rule p ≡ plain_rule_for p
-unfolding plain_rule plain_rule_for is_plain rule_for readers plain_part only_part plain_index first_kind after_of chosen rules any_accepts accepts
+unfolding plain_rule plain_rule_for is_plain rule_for readers plain_part only_part plain_index first_kind after_of chosen rules
+    any_accepts accepts
     keyword_number punctuator_number kinds may_begin firsts nullable template home reader level_reader follow allows is_statement entry
 plain-rule make.Identifier = refl
 plain-rule _ = refl
@@ -207,7 +212,8 @@ plain-reader make.Identifier = refl
 plain-reader _ = refl
 
 -- a rule that leaves the token, and one that takes it
-stay-join : (P : Part) (rule : Rule) (front symbols : List Symbol) (values : List Written) (x : Token) (tokens : List Token) (s : Symbol) {c : State}
+stay-join : (P : Part) (rule : Rule) (front symbols : List Symbol) (values : List Written) (x : Token) (tokens : List Token)
+    (s : Symbol) {c : State}
     → choose (rules P) (kind_of x) ≡ Some rule → shape rule ≡ (move.Stay, front ++ s ∷ [])
     → Reaches (at (front ++ s ∷ symbols) values (x ∷ tokens)) c → Reaches (at (symbol.Read P ∷ symbols) values (x ∷ tokens)) c
 stay-join P rule front symbols values x tokens s {c} e r reached =
@@ -216,7 +222,8 @@ stay-join P rule front symbols values x tokens s {c} e r reached =
     let one = read-step P rule symbols values x tokens e in
     join (rw (m, f, append_assoc) at one) reached
 
-take-join : (P : Part) (rule : Rule) (t : Terminal) (front symbols : List Symbol) (values others : List Written) (x : Token) (tokens left : List Token) (s : Symbol)
+take-join : (P : Part) (rule : Rule) (t : Terminal) (front symbols : List Symbol) (values others : List Written) (x : Token)
+    (tokens left : List Token) (s : Symbol)
     → choose (rules P) (kind_of x) ≡ Some rule → shape rule ≡ (move.Take, front ++ s ∷ []) → accepts t (kind_of x) ≡ true
     → Reaches (at (symbol.Take t ∷ front ++ s ∷ symbols) values (x ∷ tokens)) (at symbols others left)
     → Reaches (at (symbol.Read P ∷ symbols) values (x ∷ tokens)) (at symbols others left)
@@ -226,10 +233,12 @@ take-join P rule t front symbols values others x tokens left s e r a reached =
     let f : rule.symbols ≡ front ++ s ∷ [] = ap (λ (y : Move × List Symbol). y.1) r in
     let one = read-step P rule symbols values x tokens e in
     let differ = longer (symbol.Take t) (front ++ s ∷ []) symbols {values = values} {others = others} {tokens = x ∷ tokens} {left = left} in
-    join (rw (m, f, append_assoc) at one) (after-step {b = at (front ++ s ∷ symbols) (leaf x ∷ values) tokens} (rw a refl) reached (rw append_assoc at differ))
+    join (rw (m, f, append_assoc) at one) (after-step {b = at (front ++ s ∷ symbols) (leaf x ∷ values) tokens} (rw a refl) reached
+    (rw append_assoc at differ))
 
 -- what the pieces reach one after another a part reaches whose rule reads them
-pub rule-join : (pieces : List Piece) (p : Production) (P : Part) (rule : Rule) (after : Kind → Bool) (symbols : List Symbol) (values others : List Written)
+pub rule-join : (pieces : List Piece) (p : Production) (P : Part) (rule : Rule) (after : Kind → Bool) (symbols : List Symbol)
+    (values others : List Written)
     (x : Token) (tokens left : List Token) → choose (rules P) (kind_of x) ≡ Some rule → shape rule ≡ rule_for pieces p
     → may_begin pieces after (kind_of x) ≡ true
     → Reaches (at (readers pieces ++ symbol.Reduce p ∷ symbols) values (x ∷ tokens)) (at symbols others left)
@@ -248,7 +257,8 @@ plain-choice : (p : Production) (kind : Kind) → is_plain p ≡ true → may_be
 unfolding plain_holds agrees plain_rule plain_rule_for
 plain-choice p kind plain b =
     let both = and_parts (ready p) (agrees (plain_part p) (template p) (after_of p) (plain_index p)) (rw plain at (plain-holds p)) in
-    let index = implied _ _ (at-kind (λ k. not (may_begin (template p) (after_of p) k) || nat_eq (chosen (rules (plain_part p)) k) (plain_index p)) both.1 kind) b in
+    let index = implied _ _ (at-kind (λ k. not (may_begin (template p) (after_of p) k) || nat_eq (chosen (rules (plain_part p)) k)
+    (plain_index p)) both.1 kind) b in
     go (entry (plain_index p) (rules (plain_part p))) (choose-at (plain_part p) kind (plain_index p) index) (rw plain at (plain-rule p))
   where
     go : (o : Option Rule) → choose (rules (plain_part p)) kind ≡ o → shown o ≡ Some (rule_for (template p) p)

@@ -16,7 +16,8 @@ use Rattle.cgrammar.specs.Kind.{kind_of}
 use Rattle.cgrammar.specs.Terminal.{accepts, keyword_number, punctuator_number}
 use Rattle.creader.specs.Rules.{any_accepts}
 use Rattle.cgrammar.specs.Grammar as class
-use Rattle.cgrammar.specs.Grammar.{template, home, under, is_wider, class_number, words_number, operator_level, comparison_level, logical_level, alone, joined}
+use Rattle.cgrammar.specs.Grammar.{template, home, under, is_wider, class_number, words_number}
+use Rattle.cgrammar.specs.Grammar.{operator_level, comparison_level, logical_level, alone, joined}
 use Rattle.cgrammar.specs.Text.{Written, leaf, node, Forest, none, more, IsProper, Match, Stands, spell, spells}
 use Rattle.creader.specs.Machine.{at, Reaches}
 use Rattle.creader.proofs.Complete.Reading.{reader, follow, allows, is_statement, has_reader, Reads}
@@ -110,7 +111,8 @@ qualified-makers p h = go (rw qualified-list at (in-makers p class.qualified h))
     go (inr (inr e)) = absurd e
 
 -- pointers are of the one class or the other
-pointers-ways : (p : Production) → under (home p) class.pointers ≡ true → (under (home p) class.stars ≡ true) ⊎ (under (home p) class.qualified ≡ true)
+pointers-ways : (p : Production) → under (home p) class.pointers ≡ true
+    → (under (home p) class.stars ≡ true) ⊎ (under (home p) class.qualified ≡ true)
 unfolding under home class_number is_wider
 pointers-ways p h = go (rw pointers-list at (in-makers p class.pointers h))
   where
@@ -125,7 +127,8 @@ pointers-ways p h = go (rw pointers-list at (in-makers p class.pointers h))
 -- one more star, and no qualifier
 star-reads : (tail after : Part) → Starred tail after → (c : Written) (x : Token) → Match (template make.Star) (more c (more (leaf x) none))
     → (symbols : List Symbol) (values : List Written) (tokens : List Token) → Begins not_qualifier tokens
-    → Reaches (at (symbol.Read tail ∷ symbols) (c ∷ values) (x ∷ tokens)) (at (symbol.Read tail ∷ symbols) (node make.Star (more c (more (leaf x) none)) ∷ values) tokens)
+    → Reaches (at (symbol.Read tail ∷ symbols) (c ∷ values) (x ∷ tokens))
+    (at (symbol.Read tail ∷ symbols) (node make.Star (more c (more (leaf x) none)) ∷ values) tokens)
 unfolding template Match push
 star-reads tail after s c x m symbols values [] b = absurd b
 star-reads tail after s c x m symbols values (y ∷ tokens) b =
@@ -136,10 +139,12 @@ star-reads tail after s c x m symbols values (y ∷ tokens) b =
 -- Stars are read one by one, and what may go on with them is left to read.
 pub stars-read : (tail after : Part) → Starred tail after → (w : Written) → Stands (class.part class.stars) w → IsProper w
     → (symbols : List Symbol) (values : List Written) (tokens : List Token) → Begins not_qualifier tokens
-    → Reaches (at (symbol.Reduce make.NoPointers ∷ symbol.Read tail ∷ symbols) values (spell w ++ tokens)) (at (symbol.Read tail ∷ symbols) (w ∷ values) tokens)
+    → Reaches (at (symbol.Reduce make.NoPointers ∷ symbol.Read tail ∷ symbols) values (spell w ++ tokens))
+    (at (symbol.Read tail ∷ symbols) (w ∷ values) tokens)
 unfolding IsProper template makes_stars push
 stars-read tail after s (leaf t) st m symbols values tokens b = absurd st
-stars-read tail after s (node make.NoPointers none) st m symbols values tokens b = made-step make.NoPointers none (symbol.Read tail ∷ symbols) values tokens m
+stars-read tail after s (node make.NoPointers none) st m symbols values tokens b =
+    made-step make.NoPointers none (symbol.Read tail ∷ symbols) values tokens m
 stars-read tail after s (node make.NoPointers (more c f)) st m symbols values tokens b = absurd m
 stars-read tail after s (node make.Star none) st m symbols values tokens b = absurd m
 stars-read tail after s (node make.Star (more c none)) st m symbols values tokens b = absurd m.3
@@ -154,7 +159,8 @@ stars-read tail after s (node p f) st m symbols values tokens b = absurd (no (st
 record Marked (tail after : Part) : Type 0 where
   starred : Chosen tail is_star move.Take (symbol.Read after ∷ [])
   marked : Chosen after is_qualifier move.Take
-      (symbol.Read part.Qualifiers ∷ symbol.Reduce make.Qualified ∷ symbol.Reduce make.QualifiedPointer ∷ symbol.Read part.PointersTail ∷ [])
+      (symbol.Read part.Qualifiers ∷ symbol.Reduce make.Qualified ∷ symbol.Reduce make.QualifiedPointer
+      ∷ symbol.Read part.PointersTail ∷ [])
 
 -- behind stars, and behind pointers of which some are qualified
 stars-marked : Marked part.StarsTail part.AfterStar
@@ -189,11 +195,13 @@ qualifiers-may d kind h = go (is_qualifier kind) h
     go true h = h
     go false h = h
 
-qualifiers-begin : (d : Written) → IsProper d → Stands (class.part class.some_qualifiers) d → (tokens : List Token) → Begins not_qualifier tokens
+qualifiers-begin : (d : Written) → IsProper d → Stands (class.part class.some_qualifiers) d → (tokens : List Token)
+    → Begins not_qualifier tokens
     → Begins is_qualifier (spell d ++ tokens)
 unfolding any_accepts firsts nullable
 qualifiers-begin d m s tokens b =
-    begins-as (λ kind. any_accepts (firsts class.some_qualifiers) kind || (nullable class.some_qualifiers && not_qualifier kind)) is_qualifier (spell d ++ tokens)
+    begins-as (λ kind. any_accepts (firsts class.some_qualifiers) kind || (nullable class.some_qualifiers && not_qualifier kind))
+    is_qualifier (spell d ++ tokens)
     (λ kind h. go (is_qualifier kind) h) (written-begins d m class.some_qualifiers s not_qualifier tokens b)
   where
     go : (b : Bool) → ((b || false) || false) ≡ true → b ≡ true
@@ -204,9 +212,11 @@ qualifiers-begin d m s tokens b =
 qualifier-join : (after : Part) → Chosen after is_qualifier move.Take
     (symbol.Read part.Qualifiers ∷ symbol.Reduce make.Qualified ∷ symbol.Reduce make.QualifiedPointer ∷ symbol.Read part.PointersTail ∷ [])
     → (symbols : List Symbol) (values others : List Written) (tokens left : List Token) → Begins is_qualifier tokens
-    → Reaches (at (symbol.Read part.Qualifiers ∷ symbol.Reduce make.QualifiedPointer ∷ symbol.Read part.PointersTail ∷ symbols) values tokens)
+    → Reaches (at (symbol.Read part.Qualifiers ∷ symbol.Reduce make.QualifiedPointer ∷ symbol.Read part.PointersTail ∷ symbols)
+    values tokens)
     (at (symbol.Reduce make.QualifiedPointer ∷ symbol.Read part.PointersTail ∷ symbols) others left)
-    → Reaches (at (symbol.Read after ∷ symbols) values tokens) (at (symbol.Reduce make.QualifiedPointer ∷ symbol.Read part.PointersTail ∷ symbols) others left)
+    → Reaches (at (symbol.Read after ∷ symbols) values tokens)
+    (at (symbol.Reduce make.QualifiedPointer ∷ symbol.Read part.PointersTail ∷ symbols) others left)
 qualifier-join after c symbols values others [] left b reached = absurd b
 qualifier-join after c symbols values others (q ∷ tokens) left b reached =
     let behind = symbol.Reduce make.QualifiedPointer ∷ symbol.Read part.PointersTail ∷ symbols in
@@ -245,11 +255,13 @@ next-reads c x m symbols values (y ∷ tokens) b =
 -- read from the first star on, with what may go on with them left to read
 abbrev Qualified : Written → Type 0
 Qualified w = (symbols : List Symbol) (values : List Written) (tokens : List Token) → Begins not_qualifier tokens
-    → Reaches (at (symbol.Reduce make.NoPointers ∷ symbol.Read part.StarsTail ∷ symbols) values (spell w ++ tokens)) (at (symbol.Read part.PointersTail ∷ symbols) (w ∷ values) tokens)
+    → Reaches (at (symbol.Reduce make.NoPointers ∷ symbol.Read part.StarsTail ∷ symbols) values (spell w ++ tokens))
+    (at (symbol.Read part.PointersTail ∷ symbols) (w ∷ values) tokens)
 
 -- pointers of either class, and a star and qualifiers
 qualifiers-read : (c : Written) (x : Token) (d : Written) → Match (template make.QualifiedPointer) (more c (more (leaf x) (more d none)))
-    → (Stands (class.part class.qualified) c → Qualified c) → Deep d → Qualified (node make.QualifiedPointer (more c (more (leaf x) (more d none))))
+    → (Stands (class.part class.qualified) c → Qualified c) → Deep d
+    → Qualified (node make.QualifiedPointer (more c (more (leaf x) (more d none))))
 unfolding template Match
 qualifiers-read (leaf t) x d m ih deep symbols values tokens b = absurd m.0
 qualifiers-read (node p g) x d m ih deep symbols values tokens b = simp append_assoc (go (pointers-ways p m.0))
@@ -319,22 +331,29 @@ pointers-may w kind h = go (is_star kind) (is_qualifier kind) h
     go false false h = (refl, refl)
 
 -- pointers are read before what is neither a star nor a qualifier
-pub pointers-read : (p : Production) (f : Forest) → under (home p) class.pointers ≡ true → Match (template p) f → Deeps f → Reads class.pointers (node p f)
+pub pointers-read : (p : Production) (f : Forest) → under (home p) class.pointers ≡ true → Match (template p) f → Deeps f
+    → Reads class.pointers (node p f)
 unfolding reader IsProper Below
 pointers-read p f u m deep = reads-from class.pointers (node p f) (λ symbols values tokens b.
     join (stay-at part.Pointers (λ _. true) _ symbols values (spell (node p f) ++ tokens) pointers-first
-    (begins-as (may_begin (template p) (may_follow class.pointers (node p f))) (λ _. true) (spell (node p f) ++ tokens) (λ _ _. refl) (forest-begins f (template p) m (may_follow class.pointers (node p f)) tokens b)))
+    (begins-as (may_begin (template p) (may_follow class.pointers (node p f))) (λ _. true) (spell (node p f) ++ tokens)
+    (λ _ _. refl) (forest-begins f (template p) m (may_follow class.pointers (node p f)) tokens b)))
     (go symbols values tokens b (pointers-ways p u)))
   where
     go : (symbols : List Symbol) (values : List Written) (tokens : List Token) → Begins (may_follow class.pointers (node p f)) tokens
         → (under (home p) class.stars ≡ true) ⊎ (under (home p) class.qualified ≡ true)
-        → Reaches (at (symbol.Reduce make.NoPointers ∷ symbol.Read part.StarsTail ∷ symbols) values (spells f ++ tokens)) (at symbols (node p f ∷ values) tokens)
+        → Reaches (at (symbol.Reduce make.NoPointers ∷ symbol.Read part.StarsTail ∷ symbols) values (spells f ++ tokens))
+        (at symbols (node p f ∷ values) tokens)
     go symbols values tokens b (inl e) =
-        join (stars-read part.StarsTail part.AfterStar stars-tail (node p f) e m symbols values tokens (begins-as (may_follow class.pointers (node p f)) not_qualifier tokens (λ kind h. (pointers-may (node p f) kind h).0) b))
-        (stay-at part.StarsTail not_star [] symbols (node p f ∷ values) tokens stars-end (begins-as (may_follow class.pointers (node p f)) not_star tokens (λ kind h. (pointers-may (node p f) kind h).1) b))
+        join (stars-read part.StarsTail part.AfterStar stars-tail (node p f) e m symbols values tokens
+        (begins-as (may_follow class.pointers (node p f)) not_qualifier tokens (λ kind h. (pointers-may (node p f) kind h).0) b))
+        (stay-at part.StarsTail not_star [] symbols (node p f ∷ values) tokens stars-end
+        (begins-as (may_follow class.pointers (node p f)) not_star tokens (λ kind h. (pointers-may (node p f) kind h).1) b))
     go symbols values tokens b (inr e) =
-        join (qualified-read (node p f) e m deep symbols values tokens (begins-as (may_follow class.pointers (node p f)) not_qualifier tokens (λ kind h. (pointers-may (node p f) kind h).0) b))
-        (stay-at part.PointersTail not_star [] symbols (node p f ∷ values) tokens pointers-end (begins-as (may_follow class.pointers (node p f)) not_star tokens (λ kind h. (pointers-may (node p f) kind h).1) b))
+        join (qualified-read (node p f) e m deep symbols values tokens
+        (begins-as (may_follow class.pointers (node p f)) not_qualifier tokens (λ kind h. (pointers-may (node p f) kind h).0) b))
+        (stay-at part.PointersTail not_star [] symbols (node p f ∷ values) tokens pointers-end
+        (begins-as (may_follow class.pointers (node p f)) not_star tokens (λ kind h. (pointers-may (node p f) kind h).1) b))
 
 -- stars are pointers
 pub stars-pointers : (w : Written) → Stands (class.part class.stars) w → Stands (class.part class.pointers) w

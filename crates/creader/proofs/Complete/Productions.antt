@@ -239,7 +239,8 @@ kept test [] = []
 kept test (p ∷ ps) = if test p then p ∷ kept test ps else kept test ps
 
 -- what passes the test is kept
-in-kept : (test : Production → Bool) (n : ℕ) (ps : List Production) (p : Production) → entry n ps ≡ Some p → test p ≡ true → In p (kept test ps)
+in-kept : (test : Production → Bool) (n : ℕ) (ps : List Production) (p : Production) → entry n ps ≡ Some p → test p ≡ true
+    → In p (kept test ps)
 unfolding entry kept
 in-kept test n [] p e h = cc
 in-kept test n (other ∷ others) p e h = go n (test other) refl e (λ m e'. in-kept test m others p e' h)

@@ -1,5 +1,6 @@
 -- What it means that a class is read: by which symbols, before which tokens, and what is left of the symbols.
-use Rattle.std.specs.Prelude.{◌≡◌, ℕ, Bool, true, false, not, ◌||◌, ◌&&◌, nat_le, nat_eq, List, [], ◌∷◌, ◌++◌, length, Option, Some, None, if◌then◌else◌}
+use Rattle.std.specs.Prelude.{◌≡◌, ℕ, Bool, true, false, not, ◌||◌, ◌&&◌, nat_le, nat_eq, List, [], ◌∷◌}
+use Rattle.std.specs.Prelude.{◌++◌, length, Option, Some, None, if◌then◌else◌}
 use Rattle.csyn.specs.declared.token.Token.{Token}
 use Rattle.csyn.specs.declared.keyword.Keyword.{Keyword}
 use Rattle.csyn.specs.declared.keyword.Keyword.TheVariants as keyword
@@ -95,7 +96,8 @@ operators_from n =
     (if nat_le n 12 then sign punctuator.Star ∷ sign punctuator.Slash ∷ sign punctuator.Percent ∷ [] else [])
     ++ (if nat_le n 11 then sign punctuator.Plus ∷ sign punctuator.Minus ∷ [] else [])
     ++ (if nat_le n 10 then sign punctuator.ShiftLeft ∷ sign punctuator.ShiftRight ∷ [] else [])
-    ++ (if nat_le n 9 then sign punctuator.Less ∷ sign punctuator.Greater ∷ sign punctuator.LessEqual ∷ sign punctuator.GreaterEqual ∷ [] else [])
+    ++ (if nat_le n 9 then sign punctuator.Less ∷ sign punctuator.Greater ∷ sign punctuator.LessEqual ∷ sign punctuator.GreaterEqual
+    ∷ [] else [])
     ++ (if nat_le n 8 then sign punctuator.Equal ∷ sign punctuator.NotEqual ∷ [] else [])
     ++ (if nat_le n 7 then sign punctuator.Ampersand ∷ [] else [])
     ++ (if nat_le n 6 then sign punctuator.Caret ∷ [] else [])

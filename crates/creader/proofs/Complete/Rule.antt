@@ -39,7 +39,8 @@ pub record Chosen (p : Part) (test : Kind → Bool) (act : Move) (body : List Sy
   pub found : rule_shape p index ≡ Some (act, body)
 
 -- the rule that is chosen then
-pub chosen-rule : (p : Part) (test : Kind → Bool) (act : Move) (body : List Symbol) (kind : Kind) → Chosen p test act body → test kind ≡ true
+pub chosen-rule : (p : Part) (test : Kind → Bool) (act : Move) (body : List Symbol) (kind : Kind) → Chosen p test act body
+    → test kind ≡ true
     → (rule : Rule) × (choose (rules p) kind ≡ Some rule) × (rule.move ≡ act) × (rule.symbols ≡ body)
 unfolding rule_check rule_shape
 chosen-rule p test act body kind c t =
@@ -85,13 +86,15 @@ made-step p f symbols values tokens m = let one = reduce-step p symbols (push f 
 -- The same steps are taken on the way to any state that has fewer symbols.
 module _ (front symbols : List Symbol) (values others : List Written) (left : List Token) where
   -- one value is made
-  pub back-reduce : (p : Production) (tokens : List Token) → Reaches (at (symbol.Reduce p ∷ front ++ symbols) values tokens) (at symbols others left)
+  pub back-reduce : (p : Production) (tokens : List Token) → Reaches (at (symbol.Reduce p ∷ front ++ symbols) values tokens)
+      (at symbols others left)
       → Reaches (at (front ++ symbols) (reduce p values) tokens) (at symbols others left)
   unfolding step
   back-reduce p tokens reached = after-step refl reached (longer (symbol.Reduce p) front symbols)
 
   -- a token that is to be taken is one that may stand there
-  pub back-accepts : (t : Terminal) (x : Token) (tokens : List Token) → Reaches (at (symbol.Take t ∷ front ++ symbols) values (x ∷ tokens)) (at symbols others left)
+  pub back-accepts : (t : Terminal) (x : Token) (tokens : List Token)
+      → Reaches (at (symbol.Take t ∷ front ++ symbols) values (x ∷ tokens)) (at symbols others left)
       → accepts t (kind_of x) ≡ true
   unfolding step
   back-accepts t x tokens reached = go (accepts t (kind_of x)) refl
@@ -101,7 +104,8 @@ module _ (front symbols : List Symbol) (values others : List Written) (left : Li
       go false e = absurd (stuck (rw e refl) reached (longer (symbol.Take t) front symbols))
 
   -- it is taken
-  pub back-take-token : (t : Terminal) (x : Token) (tokens : List Token) → Reaches (at (symbol.Take t ∷ front ++ symbols) values (x ∷ tokens)) (at symbols others left)
+  pub back-take-token : (t : Terminal) (x : Token) (tokens : List Token)
+      → Reaches (at (symbol.Take t ∷ front ++ symbols) values (x ∷ tokens)) (at symbols others left)
       → Reaches (at (front ++ symbols) (leaf x ∷ values) tokens) (at symbols others left)
   unfolding step
   back-take-token t x tokens reached =
@@ -117,7 +121,8 @@ module _ (front symbols : List Symbol) (values others : List Written) (left : Li
   back-take p test body x tokens c t reached =
       let r = chosen-rule p test move.Take body (kind_of x) c t in
       let e = r.1 in let m = r.2 in let b = r.3 in
-      after-step {b = at (body ++ front ++ symbols) (leaf x ∷ values) tokens} (rw (e, m, b, append_assoc) refl) reached (longer (symbol.Read p) front symbols)
+      after-step {b = at (body ++ front ++ symbols) (leaf x ∷ values) tokens} (rw (e, m, b, append_assoc) refl) reached
+      (longer (symbol.Read p) front symbols)
 
   -- a rule leaves the token
   pub back-stay : (p : Part) (test : Kind → Bool) (body : List Symbol) (x : Token) (tokens : List Token)
@@ -128,7 +133,8 @@ module _ (front symbols : List Symbol) (values others : List Written) (left : Li
   back-stay p test body x tokens c t reached =
       let r = chosen-rule p test move.Stay body (kind_of x) c t in
       let e = r.1 in let m = r.2 in let b = r.3 in
-      after-step {b = at (body ++ front ++ symbols) values (x ∷ tokens)} (rw (e, m, b, append_assoc) refl) reached (longer (symbol.Read p) front symbols)
+      after-step {b = at (body ++ front ++ symbols) values (x ∷ tokens)} (rw (e, m, b, append_assoc) refl) reached
+      (longer (symbol.Read p) front symbols)
 
 -- symbols of which the first that asks for a token is no production
 unfoldable pub hungry : List Symbol → Bool
@@ -179,15 +185,18 @@ unfolding refuse step
 refuse-reached zero front symbols values others x tokens left h reached = no h
 refuse-reached (suc n) [] symbols values others x tokens left h reached = no h
 refuse-reached (suc n) (symbol.Reduce p ∷ front) symbols values others x tokens left h reached =
-    refuse-reached n front symbols (reduce p values) others x tokens left h (back-reduce front symbols values others left p (x ∷ tokens) reached)
+    refuse-reached n front symbols (reduce p values) others x tokens left h
+    (back-reduce front symbols values others left p (x ∷ tokens) reached)
 refuse-reached (suc n) (symbol.Take t ∷ front) symbols values others x tokens left h reached =
-    both_ways (accepts t (kind_of x)) (not-true (accepts t (kind_of x)) h) (back-accepts front symbols values others left t x tokens reached)
+    both_ways (accepts t (kind_of x)) (not-true (accepts t (kind_of x)) h)
+    (back-accepts front symbols values others left t x tokens reached)
 refuse-reached (suc n) (symbol.Read p ∷ front) symbols values others x tokens left h reached =
     go (choose (rules p) (kind_of x)) refl h
     (λ more h' reached'. refuse-reached n more symbols values others x tokens left h' reached')
   where
     Goes : Type 0
-    Goes = (more : List Symbol) → refuse n more (kind_of x) ≡ true → Reaches (at (more ++ symbols) values (x ∷ tokens)) (at symbols others left) → ⊥
+    Goes = (more : List Symbol) → refuse n more (kind_of x) ≡ true
+        → Reaches (at (more ++ symbols) values (x ∷ tokens)) (at symbols others left) → ⊥
 
     differ : at (symbol.Read p ∷ front ++ symbols) values (x ∷ tokens) ≡ at symbols others left → ⊥
     differ = longer (symbol.Read p) front symbols

@@ -9,8 +9,10 @@ use Rattle.cgrammar.specs.declared.production.Production.TheVariants as make
 use Rattle.creader.specs.declared.part.Symbol.{Symbol}
 use Rattle.creader.specs.declared.part.Symbol.TheVariants as symbol
 use Rattle.cgrammar.specs.Grammar as class
-use Rattle.cgrammar.specs.Grammar.{Class, Piece, token, part, template, home, under, is_wider, class_number, words_number, operator_level, comparison_level, logical_level, alone, joined}
-use Rattle.cgrammar.specs.Text.{Written, leaf, node, Forest, none, more, IsProper, Match, spell, spells, dangles, last_dangles, begins_with_else}
+use Rattle.cgrammar.specs.Grammar.{Class, Piece, token, part, template, home, under, is_wider, class_number, words_number}
+use Rattle.cgrammar.specs.Grammar.{operator_level, comparison_level, logical_level, alone, joined}
+use Rattle.cgrammar.specs.Text.{Written, leaf, node, Forest, none, more, IsProper, Match, spell}
+use Rattle.cgrammar.specs.Text.{spells, dangles, last_dangles, begins_with_else}
 use Rattle.creader.specs.Machine.{at, Reaches, here}
 use Rattle.creader.proofs.Complete.Reading.{reader, follow, allows, is_statement, has_reader, Reads}
 use Rattle.creader.proofs.Complete.Heads.{AllKnown}
@@ -93,12 +95,14 @@ else-makers p h = go (rw else-list at (in-makers p class.optional_else h))
     go (inr (inr e)) = absurd e
 
 -- what may stand behind a statement, by whether it dangles
-statement-may : (c : Class) (w : Written) (kind : Kind) → is_statement c ≡ true → (not (dangles w) || allows (follow class.statement) kind) ≡ true
+statement-may : (c : Class) (w : Written) (kind : Kind) → is_statement c ≡ true
+    → (not (dangles w) || allows (follow class.statement) kind) ≡ true
     → may_follow c w kind ≡ true
 statement-may c w kind s h = let same = statement-follow c s in rw (same, s) h
 
 -- a first branch may stand before its else, and before what stands behind an if that has none
-else-may : (c : Class) (w : Written) (q : Production) (h : Forest) (after : Kind → Bool) (tokens : List Token) → IsElse q → is_statement c ≡ true
+else-may : (c : Class) (w : Written) (q : Production) (h : Forest) (after : Kind → Bool) (tokens : List Token) → IsElse q
+    → is_statement c ≡ true
     → Match (part c ∷ part class.optional_else ∷ []) (more w (more (node q h) none)) → Begins after tokens
     → Ends (part c ∷ part class.optional_else ∷ []) (more w (more (node q h) none)) tokens
     → Begins (may_follow c w) (spells (more (node q h) none) ++ tokens)
@@ -118,7 +122,8 @@ open-may : (c : Class) (pieces : List Piece) (w : Written) (g : Forest) (after :
     → Begins (may_follow c w) (spells g ++ tokens)
 unfolding Match before_end ends_open dangles is_statement begins_with_else
 open-may c [] w none after tokens s o m b e =
-    begins-as (λ kind. not (dangles w) || allows (follow class.statement) kind) (may_follow c w) tokens (λ kind h. statement-may c w kind s h) (e s)
+    begins-as (λ kind. not (dangles w) || allows (follow class.statement) kind) (may_follow c w) tokens
+    (λ kind h. statement-may c w kind s h) (e s)
 open-may c [] w (more v g) after tokens s o m b e = absurd m.3
 open-may c (part class.optional_else ∷ []) w none after tokens s o m b e = absurd m.3
 open-may c (part class.optional_else ∷ []) w (more (leaf t) g) after tokens s o m b e = absurd m.3.0
@@ -129,14 +134,16 @@ open-may c _ w g after tokens s o m b e = absurd (no o)
 
 -- each part may stand before what stands behind it
 pub child-may : (c : Class) (pieces : List Piece) (w : Written) (g : Forest) (after : Kind → Bool) (tokens : List Token)
-    → fits (part c ∷ pieces) after ≡ true → Match (part c ∷ pieces) (more w g) → Begins after tokens → Ends (part c ∷ pieces) (more w g) tokens
+    → fits (part c ∷ pieces) after ≡ true → Match (part c ∷ pieces) (more w g) → Begins after tokens
+    → Ends (part c ∷ pieces) (more w g) tokens
     → Begins (may_follow c w) (spells g ++ tokens)
 unfolding Match fits
 child-may c pieces w g after tokens h m b e =
     let front = and_parts _ (fits pieces after) h in
     go (or_cases _ _ (and_parts (has_reader c) _ front.0).1)
   where
-    go : ((is_statement c && before_end pieces) ≡ true) ⊎ (every_kind (λ kind. not (may_begin pieces after kind) || allows (follow c) kind) ≡ true)
+    go : ((is_statement c && before_end pieces) ≡ true) ⊎ (every_kind
+        (λ kind. not (may_begin pieces after kind) || allows (follow c) kind) ≡ true)
         → Begins (may_follow c w) (spells g ++ tokens)
     go (inl o) = let both = and_parts (is_statement c) (before_end pieces) o in open-may c pieces w g after tokens both.0 both.1 m b e
     go (inr f) =
@@ -145,7 +152,8 @@ child-may c pieces w g after tokens h m b e =
         (forest-begins g pieces m.3 after tokens b)
 
 -- the same of what stands behind the first of them
-ends-later : (piece : Piece) (pieces : List Piece) (w : Written) (g : Forest) (tokens : List Token) → Match pieces g → Ends (piece ∷ pieces) (more w g) tokens
+ends-later : (piece : Piece) (pieces : List Piece) (w : Written) (g : Forest) (tokens : List Token) → Match pieces g
+    → Ends (piece ∷ pieces) (more w g) tokens
     → Ends pieces g tokens
 unfolding Match ends_open dangles
 ends-later piece [] w g tokens m e o = absurd (no o)
@@ -154,7 +162,8 @@ ends-later (token t) (next ∷ pieces) w (more v g) tokens m e o = e o
 ends-later (part c) (next ∷ pieces) w (more v g) tokens m e o = e o
 
 -- The parts are read one after another.
-pub sequence-reads : (pieces : List Piece) (f : Forest) (after : Kind → Bool) (symbols : List Symbol) (values : List Written) (tokens : List Token)
+pub sequence-reads : (pieces : List Piece) (f : Forest) (after : Kind → Bool) (symbols : List Symbol) (values : List Written)
+    (tokens : List Token)
     → fits pieces after ≡ true → Match pieces f → AllKnown f → Begins after tokens → Ends pieces f tokens
     → Reaches (at (readers pieces ++ symbols) values (spells f ++ tokens)) (at symbols (push f values) tokens)
 unfolding fits Match readers push AllKnown
@@ -169,5 +178,6 @@ sequence-reads (part c ∷ pieces) (more w g) after symbols values tokens h m kn
     let front = and_parts _ (fits pieces after) h in
     let r = known-reads w c known.0 m.0 (and_parts (has_reader c) _ front.0).0 in
     let one = reads-before c w r (readers pieces ++ symbols) values (spells g ++ tokens) (child-may c pieces w g after tokens h m b e) in
-    let others = sequence-reads pieces g after symbols (w ∷ values) tokens front.1 m.3 known.1 b (ends-later (part c) pieces w g tokens m.3 e) in
+    let others = sequence-reads pieces g after symbols (w ∷ values) tokens front.1 m.3 known.1 b
+    (ends-later (part c) pieces w g tokens m.3 e) in
     simp append_assoc (join one others)

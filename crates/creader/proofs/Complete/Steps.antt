@@ -58,7 +58,8 @@ longer s front symbols e =
 
 -- the steps forwards
 pub take-step : (t : Terminal) (symbols : List Symbol) (values : List Written) (token : Token) (tokens : List Token)
-    → accepts t (kind_of token) ≡ true → Reaches (at (symbol.Take t ∷ symbols) values (token ∷ tokens)) (at symbols (leaf token ∷ values) tokens)
+    → accepts t (kind_of token) ≡ true → Reaches (at (symbol.Take t ∷ symbols) values (token ∷ tokens))
+    (at symbols (leaf token ∷ values) tokens)
 unfolding step
 take-step t symbols values token tokens h = next (rw h refl) here
 
@@ -127,7 +128,8 @@ counted-match (piece ∷ pieces) none n m = absurd m
 counted-match (piece ∷ pieces) (more w f) n m = let h = counted-match pieces f (suc n) m.3 in omega (arith, h)
 
 -- the values of a production's parts become one
-pub reduce-push : (p : Production) (f : Forest) (values : List Written) → Match (template p) f → reduce p (push f values) ≡ node p f ∷ values
+pub reduce-push : (p : Production) (f : Forest) (values : List Written) → Match (template p) f
+    → reduce p (push f values) ≡ node p f ∷ values
 unfolding reduce gather
 reduce-push p f values m =
     let n : length (template p) ≡ counted f 0 = let h = counted-match (template p) f 0 m in omega arith in

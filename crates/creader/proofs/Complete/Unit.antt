@@ -24,11 +24,13 @@ use Rattle.creader.proofs.Complete.Steps.{join, take-step, reduce-step}
 use Rattle.creader.proofs.Complete.Firsts.{sign, word}
 use Rattle.creader.proofs.Complete.Sequence.{reads-from, readers}
 use Rattle.creader.proofs.Complete.Plain.{ready_check, expanded}
-use Rattle.creader.proofs.Complete.Rule.{rule_check, rule_shape, Chosen, part-take, part-stay, back-reduce, back-accepts, back-take-token, back-take, back-stay, hungry, no-tokens, refuse_check, refused}
+use Rattle.creader.proofs.Complete.Rule.{rule_check, rule_shape, Chosen, part-take, part-stay, back-reduce, back-accepts}
+use Rattle.creader.proofs.Complete.Rule.{back-take-token, back-take, back-stay, hungry, no-tokens, refuse_check, refused}
 
 -- what stands behind the type of an object or a function
 abbrev rest : List Symbol
-rest = symbol.Read part.Pointers ∷ symbol.Take terminal.Name ∷ symbol.Reduce make.Identifier ∷ symbol.Read part.ExternalRest ∷ symbol.Reduce make.External ∷ []
+rest = symbol.Read part.Pointers ∷ symbol.Take terminal.Name ∷ symbol.Reduce make.Identifier ∷ symbol.Read part.ExternalRest
+    ∷ symbol.Reduce make.External ∷ []
 
 -- what a type without specifiers is read by
 abbrev base_type : List Symbol
@@ -52,7 +54,8 @@ unit-volatile : Chosen part.Unit is_volatile move.Take (symbol.Read part.AfterVo
 unfolding rule_check rule_shape
 unit-volatile = record { index = 0; checked = refl; found = refl }
 
-unit-struct : Chosen part.Unit is_struct move.Take (symbol.Take terminal.Name ∷ symbol.Reduce make.Identifier ∷ symbol.Read part.AfterTag ∷ [])
+unit-struct : Chosen part.Unit is_struct move.Take (symbol.Take terminal.Name ∷ symbol.Reduce make.Identifier
+    ∷ symbol.Read part.AfterTag ∷ [])
 unfolding rule_check rule_shape
 unit-struct = record { index = 1; checked = refl; found = refl }
 
@@ -61,20 +64,24 @@ unfolding rule_check rule_shape
 unit-other = record { index = 2; checked = refl; found = refl }
 
 volatile-register : Chosen part.AfterVolatile is_register move.Take
-    (symbol.Read part.RegisterType ∷ symbol.Take terminal.RegisterName ∷ symbol.Take (sign punctuator.Semicolon) ∷ symbol.Reduce make.RegisterUnit ∷ [])
+    (symbol.Read part.RegisterType ∷ symbol.Take terminal.RegisterName ∷ symbol.Take (sign punctuator.Semicolon)
+    ∷ symbol.Reduce make.RegisterUnit ∷ [])
 unfolding rule_check rule_shape
 volatile-register = record { index = 0; checked = refl; found = refl }
 
-volatile-other : Chosen part.AfterVolatile (λ k. not (is_register k)) move.Stay (symbol.Read part.Type ∷ symbol.Reduce make.Specified ∷ rest)
+volatile-other : Chosen part.AfterVolatile (λ k. not (is_register k)) move.Stay
+    (symbol.Read part.Type ∷ symbol.Reduce make.Specified ∷ rest)
 unfolding rule_check rule_shape
 volatile-other = record { index = 1; checked = refl; found = refl }
 
 tag-brace : Chosen part.AfterTag is_brace move.Take
-    (symbol.Read part.StructMember ∷ symbol.Read part.MoreMembers ∷ symbol.Take (sign punctuator.RightBrace) ∷ symbol.Take (sign punctuator.Semicolon) ∷ symbol.Reduce make.StructUnit ∷ [])
+    (symbol.Read part.StructMember ∷ symbol.Read part.MoreMembers ∷ symbol.Take (sign punctuator.RightBrace)
+    ∷ symbol.Take (sign punctuator.Semicolon) ∷ symbol.Reduce make.StructUnit ∷ [])
 unfolding rule_check rule_shape
 tag-brace = record { index = 0; checked = refl; found = refl }
 
-tag-other : Chosen part.AfterTag (λ k. not (is_brace k)) move.Stay (symbol.Reduce make.StructBase ∷ symbol.Read part.Qualifiers ∷ symbol.Reduce make.Based ∷ rest)
+tag-other : Chosen part.AfterTag (λ k. not (is_brace k)) move.Stay
+    (symbol.Reduce make.StructBase ∷ symbol.Read part.Qualifiers ∷ symbol.Reduce make.Based ∷ rest)
 unfolding rule_check rule_shape
 tag-other = record { index = 1; checked = refl; found = refl }
 
@@ -86,7 +93,8 @@ type-struct : Chosen part.Type is_struct move.Stay base_type
 unfolding rule_check rule_shape
 type-struct = record { index = 1; checked = refl; found = refl }
 
-base-struct : Chosen part.Base is_struct move.Take (symbol.Take terminal.Name ∷ symbol.Reduce make.Identifier ∷ symbol.Reduce make.StructBase ∷ [])
+base-struct : Chosen part.Base is_struct move.Take (symbol.Take terminal.Name ∷ symbol.Reduce make.Identifier
+    ∷ symbol.Reduce make.StructBase ∷ [])
 unfolding rule_check rule_shape
 base-struct = record { index = 1; checked = refl; found = refl }
 
@@ -95,7 +103,8 @@ volatile-type : List Symbol
 volatile-type = symbol.Read part.Type ∷ symbol.Reduce make.Specified ∷ rest
 
 -- behind volatile stands a type, and no register
-volatile-join : (symbols : List Symbol) (values others : List Written) (x : Token) (tokens left : List Token) → is_volatile (kind_of x) ≡ true
+volatile-join : (symbols : List Symbol) (values others : List Written) (x : Token) (tokens left : List Token)
+    → is_volatile (kind_of x) ≡ true
     → Reaches (at (symbol.Read part.Type ∷ rest ++ symbols) values (x ∷ tokens)) (at symbols others left)
     → Reaches (at (symbol.Read part.Unit ∷ symbols) values (x ∷ tokens)) (at symbols others left)
 unfolding volatile-type hungry refuse_check
@@ -107,11 +116,13 @@ volatile-join symbols values others x (y ∷ tokens) left v reached = go (is_reg
     inside : Reaches (at (volatile-type ++ symbols) (leaf x ∷ values) (y ∷ tokens)) (at symbols others left)
     inside = back-take rest symbols values others left part.Type is_volatile _ x (y ∷ tokens) type-volatile v reached
 
-    go : (b : Bool) → is_register (kind_of y) ≡ b → Reaches (at (symbol.Read part.Unit ∷ symbols) values (x ∷ y ∷ tokens)) (at symbols others left)
+    go : (b : Bool) → is_register (kind_of y) ≡ b → Reaches (at (symbol.Read part.Unit ∷ symbols) values (x ∷ y ∷ tokens))
+        (at symbols others left)
     go true r = absurd (refused volatile-type symbols (leaf x ∷ values) others is_register y tokens left refl r inside)
     go false r =
         join (part-take part.Unit is_volatile _ symbols values x (y ∷ tokens) unit-volatile v)
-        (join (part-stay part.AfterVolatile (λ k. not (is_register k)) _ symbols (leaf x ∷ values) y tokens volatile-other (not_from_false (is_register (kind_of y)) r)) inside)
+        (join (part-stay part.AfterVolatile (λ k. not (is_register k)) _ symbols (leaf x ∷ values) y tokens volatile-other
+        (not_from_false (is_register (kind_of y)) r)) inside)
 
 -- what is still to be read behind a structure's name
 struct-type : List Symbol
@@ -142,7 +153,8 @@ struct-join symbols values others x [] left s reached =
     (struct-inside symbols values others x [] left s reached))
 struct-join symbols values others x (y ∷ []) left s reached =
     absurd (no-tokens struct-name symbols (leaf y ∷ leaf x ∷ values) others left refl
-    (back-take-token struct-name symbols (leaf x ∷ values) others left terminal.Name y [] (struct-inside symbols values others x (y ∷ []) left s reached)))
+    (back-take-token struct-name symbols (leaf x ∷ values) others left terminal.Name y []
+    (struct-inside symbols values others x (y ∷ []) left s reached)))
 struct-join symbols values others x (y ∷ z ∷ tokens) left s reached = go (is_brace (kind_of z)) refl
   where
     name : accepts terminal.Name (kind_of y) ≡ true
@@ -157,17 +169,21 @@ struct-join symbols values others x (y ∷ z ∷ tokens) left s reached = go (is
         (back-take-token struct-name symbols (leaf x ∷ values) others left terminal.Name y (z ∷ tokens)
         (struct-inside symbols values others x (y ∷ z ∷ tokens) left s reached))
 
-    front : Reaches (at (symbol.Read part.Unit ∷ symbols) values (x ∷ y ∷ z ∷ tokens)) (at (symbol.Read part.AfterTag ∷ symbols) named (z ∷ tokens))
+    front : Reaches (at (symbol.Read part.Unit ∷ symbols) values (x ∷ y ∷ z ∷ tokens))
+        (at (symbol.Read part.AfterTag ∷ symbols) named (z ∷ tokens))
     front =
         join (part-take part.Unit is_struct _ symbols values x (y ∷ z ∷ tokens) unit-struct s)
-        (join (take-step terminal.Name (symbol.Reduce make.Identifier ∷ symbol.Read part.AfterTag ∷ symbols) (leaf x ∷ values) y (z ∷ tokens) name)
+        (join (take-step terminal.Name (symbol.Reduce make.Identifier ∷ symbol.Read part.AfterTag ∷ symbols) (leaf x ∷ values) y
+        (z ∷ tokens) name)
         (reduce-step make.Identifier (symbol.Read part.AfterTag ∷ symbols) (leaf y ∷ leaf x ∷ values) (z ∷ tokens)))
 
-    go : (b : Bool) → is_brace (kind_of z) ≡ b → Reaches (at (symbol.Read part.Unit ∷ symbols) values (x ∷ y ∷ z ∷ tokens)) (at symbols others left)
+    go : (b : Bool) → is_brace (kind_of z) ≡ b → Reaches (at (symbol.Read part.Unit ∷ symbols) values (x ∷ y ∷ z ∷ tokens))
+        (at symbols others left)
     go true b = absurd (refused struct-base symbols named others is_brace z tokens left refl b behind)
     go false b =
         join front
-        (join (part-stay part.AfterTag (λ k. not (is_brace k)) _ symbols named z tokens tag-other (not_from_false (is_brace (kind_of z)) b)) behind)
+        (join (part-stay part.AfterTag (λ k. not (is_brace k)) _ symbols named z tokens tag-other
+        (not_from_false (is_brace (kind_of z)) b)) behind)
 
 -- an object or a function
 unit-join : (symbols : List Symbol) (values others : List Written) (tokens left : List Token)
@@ -193,7 +209,8 @@ external-reads f m known = reads-from class.unit (node make.External f) (λ symb
 
 -- what is still to be read of a structure
 members : List Symbol
-members = symbol.Read part.StructMember ∷ symbol.Read part.MoreMembers ∷ symbol.Take (sign punctuator.RightBrace) ∷ symbol.Take (sign punctuator.Semicolon)
+members = symbol.Read part.StructMember ∷ symbol.Read part.MoreMembers ∷ symbol.Take (sign punctuator.RightBrace)
+    ∷ symbol.Take (sign punctuator.Semicolon)
     ∷ symbol.Reduce make.StructUnit ∷ []
 
 tag-body : List Symbol
@@ -210,7 +227,8 @@ structure-join : (symbols : List Symbol) (values others : List Written) (tokens 
     → Reaches (at (symbol.Take (word keyword.Struct) ∷ structure ++ symbols) values tokens) (at symbols others left)
     → Reaches (at (symbol.Read part.Unit ∷ symbols) values tokens) (at symbols others left)
 unfolding structure tag-name tag-body members hungry
-structure-join symbols values others [] left r = absurd (no-tokens (symbol.Take (word keyword.Struct) ∷ structure) symbols values others left refl r)
+structure-join symbols values others [] left r = absurd (no-tokens (symbol.Take (word keyword.Struct) ∷ structure) symbols values
+    others left refl r)
 structure-join symbols values others (x ∷ []) left r =
     absurd (no-tokens structure symbols (leaf x ∷ values) others left refl
     (back-take-token structure symbols values others left (word keyword.Struct) x [] r))
@@ -236,19 +254,23 @@ structure-join symbols values others (x ∷ y ∷ z ∷ tokens) left r =
 pub struct-unit-reads : (f : Forest) → Match (template make.StructUnit) f → AllKnown f → Reads class.unit (node make.StructUnit f)
 unfolding ready_check template home reader readers structure tag-name tag-body members
 struct-unit-reads f m known = reads-from class.unit (node make.StructUnit f) (λ symbols values tokens b.
-    structure-join symbols values (node make.StructUnit f ∷ values) _ tokens (expanded make.StructUnit f refl m known symbols values tokens b))
+    structure-join symbols values (node make.StructUnit f ∷ values) _ tokens
+    (expanded make.StructUnit f refl m known symbols values tokens b))
 
 -- what is still to be read of a register
 register-body : List Symbol
-register-body = symbol.Read part.RegisterType ∷ symbol.Take terminal.RegisterName ∷ symbol.Take (sign punctuator.Semicolon) ∷ symbol.Reduce make.RegisterUnit ∷ []
+register-body = symbol.Read part.RegisterType ∷ symbol.Take terminal.RegisterName ∷ symbol.Take (sign punctuator.Semicolon)
+    ∷ symbol.Reduce make.RegisterUnit ∷ []
 
 -- a register
 register-join : (symbols : List Symbol) (values others : List Written) (tokens left : List Token)
-    → Reaches (at (symbol.Take (word keyword.Volatile) ∷ symbol.Take (word keyword.Register) ∷ register-body ++ symbols) values tokens) (at symbols others left)
+    → Reaches (at (symbol.Take (word keyword.Volatile) ∷ symbol.Take (word keyword.Register) ∷ register-body ++ symbols) values
+    tokens) (at symbols others left)
     → Reaches (at (symbol.Read part.Unit ∷ symbols) values tokens) (at symbols others left)
 unfolding register-body hungry
 register-join symbols values others [] left r =
-    absurd (no-tokens (symbol.Take (word keyword.Volatile) ∷ symbol.Take (word keyword.Register) ∷ register-body) symbols values others left refl r)
+    absurd (no-tokens (symbol.Take (word keyword.Volatile) ∷ symbol.Take (word keyword.Register) ∷ register-body) symbols values
+    others left refl r)
 register-join symbols values others (x ∷ []) left r =
     absurd (no-tokens (symbol.Take (word keyword.Register) ∷ register-body) symbols (leaf x ∷ values) others left refl
     (back-take-token (symbol.Take (word keyword.Register) ∷ register-body) symbols values others left (word keyword.Volatile) x [] r))
@@ -265,4 +287,5 @@ register-join symbols values others (x ∷ y ∷ tokens) left r =
 pub register-unit-reads : (f : Forest) → Match (template make.RegisterUnit) f → AllKnown f → Reads class.unit (node make.RegisterUnit f)
 unfolding ready_check template home reader readers register-body
 register-unit-reads f m known = reads-from class.unit (node make.RegisterUnit f) (λ symbols values tokens b.
-    register-join symbols values (node make.RegisterUnit f ∷ values) _ tokens (expanded make.RegisterUnit f refl m known symbols values tokens b))
+    register-join symbols values (node make.RegisterUnit f ∷ values) _ tokens
+    (expanded make.RegisterUnit f refl m known symbols values tokens b))

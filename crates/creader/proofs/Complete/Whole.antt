@@ -72,7 +72,8 @@ narrow-each p f n r c u has = go (under-ways (home p) c u)
     go (inr wider) = narrow-reads (home p) c (node p f) n wider r
 
 -- so it is enough to read it as its own class
-narrow-known : (p : Production) (f : Forest) → is_expression p ≡ false → narrow (home p) ≡ true → Reads (home p) (node p f) → Known (node p f)
+narrow-known : (p : Production) (f : Forest) → is_expression p ≡ false → narrow (home p) ≡ true → Reads (home p) (node p f)
+    → Known (node p f)
 narrow-known p f e n r = known-other p f e (narrow-each p f n r)
 
 -- plain productions are such
@@ -142,7 +143,8 @@ pointers-bare class.stars e h = no h
 pointers-bare class.qualified e h = no h
 pointers-bare _ e h = no e
 
-pointers-known : (p : Production) (f : Forest) → is_expression p ≡ false → is_pointers (home p) ≡ true → under (home p) class.pointers ≡ true
+pointers-known : (p : Production) (f : Forest) → is_expression p ≡ false → is_pointers (home p) ≡ true
+    → under (home p) class.pointers ≡ true
     → Match (template p) f → Deeps f → Known (node p f)
 pointers-known p f e s u m deep = known-other p f e (λ c v h. go c h (under-ways (home p) c v))
   where
@@ -165,10 +167,13 @@ next-word-unread every.SignLengthInt word.Sign = refl
 next-word-unread _ _ = refl
 
 -- the other productions
-special-known : (p : Production) (f : Forest) → is_expression p ≡ false → is_plain p ≡ false → Match (template p) f → Deeps f → Known (node p f)
+special-known : (p : Production) (f : Forest) → is_expression p ≡ false → is_plain p ≡ false → Match (template p) f → Deeps f
+    → Known (node p f)
 unfolding is_expression is_level is_plain narrow home template reader readers ready_check unread is_pointers under class_number is_wider
-special-known make.Identifier f e e' m deep = narrow-known make.Identifier f e refl (direct-reads make.Identifier f refl refl m (deeps-known f deep))
-special-known make.RegionName f e e' m deep = narrow-known make.RegionName f e refl (direct-reads make.RegionName f refl refl m (deeps-known f deep))
+special-known make.Identifier f e e' m deep = narrow-known make.Identifier f e refl
+    (direct-reads make.Identifier f refl refl m (deeps-known f deep))
+special-known make.RegionName f e e' m deep = narrow-known make.RegionName f e refl
+    (direct-reads make.RegionName f refl refl m (deeps-known f deep))
 special-known make.Source f e e' m deep = narrow-known make.Source f e refl (direct-reads make.Source f refl refl m (deeps-known f deep))
 special-known make.IntegerBase f e e' m deep = narrow-known make.IntegerBase f e refl (integer-base-reads f m)
 special-known (make.FirstWord w) f e e' m deep = unread-known (make.FirstWord w) f e refl

@@ -56,22 +56,111 @@ first-word kind.Int = record { index = 6; checked = refl; found = refl }
 record Further (all : Words) (w : Word) : Type 0 where
   earlier : Words
   before_is : before all w ≡ class.words earlier
-  chosen : Chosen (part.Words earlier) (accepts (word_token w)) move.Take (symbol.Reduce (make.NextWord all w) ∷ symbol.Read (part.Words all) ∷ [])
+  chosen : Chosen (part.Words earlier) (accepts (word_token w)) move.Take
+      (symbol.Reduce (make.NextWord all w) ∷ symbol.Read (part.Words all) ∷ [])
 
 -- each further word has such a rule
 further : (all : Words) (w : Word) (ws : Words) → joined all w ≡ class.words ws → (all ≡ ws) × Further all w
 unfolding joined before word_token rule_check rule_shape
-further every.SignChar kind.Char ws h = (cc, record { earlier = every.Sign; before_is = refl; chosen = record { index = 0; checked = refl; found = refl } })
-further every.SignLength kind.Length ws h = (cc, record { earlier = every.Sign; before_is = refl; chosen = record { index = 1; checked = refl; found = refl } })
-further every.SignInt kind.Int ws h = (cc, record { earlier = every.Sign; before_is = refl; chosen = record { index = 2; checked = refl; found = refl } })
-further every.SignChar kind.Sign ws h = (cc, record { earlier = every.Char; before_is = refl; chosen = record { index = 0; checked = refl; found = refl } })
-further every.SignLength kind.Sign ws h = (cc, record { earlier = every.Length; before_is = refl; chosen = record { index = 0; checked = refl; found = refl } })
-further every.LengthInt kind.Int ws h = (cc, record { earlier = every.Length; before_is = refl; chosen = record { index = 1; checked = refl; found = refl } })
-further every.SignInt kind.Sign ws h = (cc, record { earlier = every.Int; before_is = refl; chosen = record { index = 0; checked = refl; found = refl } })
-further every.LengthInt kind.Length ws h = (cc, record { earlier = every.Int; before_is = refl; chosen = record { index = 1; checked = refl; found = refl } })
-further every.SignLengthInt kind.Int ws h = (cc, record { earlier = every.SignLength; before_is = refl; chosen = record { index = 0; checked = refl; found = refl } })
-further every.SignLengthInt kind.Length ws h = (cc, record { earlier = every.SignInt; before_is = refl; chosen = record { index = 0; checked = refl; found = refl } })
-further every.SignLengthInt kind.Sign ws h = (cc, record { earlier = every.LengthInt; before_is = refl; chosen = record { index = 0; checked = refl; found = refl } })
+further every.SignChar kind.Char ws h = (
+  cc,
+  record {
+    earlier = every.Sign;
+    before_is = refl;
+    chosen =
+        record { index = 0; checked = refl; found = refl };
+  },
+)
+further every.SignLength kind.Length ws h = (
+  cc,
+  record {
+    earlier = every.Sign;
+    before_is = refl;
+    chosen =
+        record { index = 1; checked = refl; found = refl };
+  },
+)
+further every.SignInt kind.Int ws h = (
+  cc,
+  record {
+    earlier = every.Sign;
+    before_is = refl;
+    chosen =
+        record { index = 2; checked = refl; found = refl };
+  },
+)
+further every.SignChar kind.Sign ws h = (
+  cc,
+  record {
+    earlier = every.Char;
+    before_is = refl;
+    chosen =
+        record { index = 0; checked = refl; found = refl };
+  },
+)
+further every.SignLength kind.Sign ws h = (
+  cc,
+  record {
+    earlier = every.Length;
+    before_is = refl;
+    chosen =
+        record { index = 0; checked = refl; found = refl };
+  },
+)
+further every.LengthInt kind.Int ws h = (
+  cc,
+  record {
+    earlier = every.Length;
+    before_is = refl;
+    chosen =
+        record { index = 1; checked = refl; found = refl };
+  },
+)
+further every.SignInt kind.Sign ws h = (
+  cc,
+  record {
+    earlier = every.Int;
+    before_is = refl;
+    chosen =
+        record { index = 0; checked = refl; found = refl };
+  },
+)
+further every.LengthInt kind.Length ws h = (
+  cc,
+  record {
+    earlier = every.Int;
+    before_is = refl;
+    chosen =
+        record { index = 1; checked = refl; found = refl };
+  },
+)
+further every.SignLengthInt kind.Int ws h = (
+  cc,
+  record {
+    earlier = every.SignLength;
+    before_is = refl;
+    chosen =
+        record { index = 0; checked = refl; found = refl };
+  },
+)
+further every.SignLengthInt kind.Length ws h = (
+  cc,
+  record {
+    earlier = every.SignInt;
+    before_is = refl;
+    chosen =
+        record { index = 0; checked = refl; found = refl };
+  },
+)
+further every.SignLengthInt kind.Sign ws h = (
+  cc,
+  record {
+    earlier = every.LengthInt;
+    before_is = refl;
+    chosen =
+        record { index = 0; checked = refl; found = refl };
+  },
+)
 further _ _ ws h = cc
 
 -- behind the last word
@@ -128,19 +217,22 @@ further-reads : (all : Words) (w : Word) (c : Written) (x : Token) (ws : Words) 
     → Match (template (make.NextWord all w)) (more c (more (leaf x) none))
     → (symbols : List Symbol) (values : List Written) (tokens : List Token)
     → Reaches (at (symbol.Read (part.Words f.earlier) ∷ symbol.Reduce make.IntegerBase ∷ symbols) (c ∷ values) (x ∷ tokens))
-    (at (symbol.Read (part.Words ws) ∷ symbol.Reduce make.IntegerBase ∷ symbols) (node (make.NextWord all w) (more c (more (leaf x) none)) ∷ values) tokens)
+    (at (symbol.Read (part.Words ws) ∷ symbol.Reduce make.IntegerBase ∷ symbols)
+    (node (make.NextWord all w) (more c (more (leaf x) none)) ∷ values) tokens)
 unfolding template Match push
 further-reads all w c x ws f e m symbols values tokens =
     let left = symbol.Reduce make.IntegerBase ∷ symbols in
     let front = part-take (part.Words f.earlier) (accepts (word_token w)) _ left (c ∷ values) x tokens f.chosen m.3.0 in
-    let whole = join front (made-step (make.NextWord all w) (more c (more (leaf x) none)) (symbol.Read (part.Words all) ∷ left) values tokens m) in
+    let whole = join front (made-step (make.NextWord all w) (more c (more (leaf x) none)) (symbol.Read (part.Words all) ∷ left)
+    values tokens m) in
     subst (λ (v : Words). Reaches (at (symbol.Read (part.Words f.earlier) ∷ left) (c ∷ values) (x ∷ tokens))
     (at (symbol.Read (part.Words v) ∷ left) (node (make.NextWord all w) (more c (more (leaf x) none)) ∷ values) tokens)) e whole
 
 -- The words of a type are read from its base on, and what may go on with them is left to read.
 words-read : (w : Written) (ws : Words) → Stands (class.part (class.words ws)) w → IsProper w
     → (symbols : List Symbol) (values : List Written) (tokens : List Token)
-    → Reaches (at (symbol.Read part.Base ∷ symbols) values (spell w ++ tokens)) (at (symbol.Read (part.Words ws) ∷ symbol.Reduce make.IntegerBase ∷ symbols) (w ∷ values) tokens)
+    → Reaches (at (symbol.Read part.Base ∷ symbols) values (spell w ++ tokens))
+    (at (symbol.Read (part.Words ws) ∷ symbol.Reduce make.IntegerBase ∷ symbols) (w ∷ values) tokens)
 unfolding IsProper template home adds_word
 words-read (leaf t) ws s m symbols values tokens = absurd s
 words-read (node (make.FirstWord w) f) ws s m symbols values tokens =
@@ -199,11 +291,13 @@ is-words : (p : Production) (ws : Words) → home p ≡ class.words ws → under
 is-words p ws e = rw e (same-under (class.words ws))
 
 -- no word stands behind them
-ended : (ws : Words) (w : Written) (symbols : List Symbol) (values : List Written) (tokens : List Token) → Begins (may_follow class.base w) tokens
+ended : (ws : Words) (w : Written) (symbols : List Symbol) (values : List Written) (tokens : List Token)
+    → Begins (may_follow class.base w) tokens
     → Reaches (at (symbol.Read (part.Words ws) ∷ symbols) values tokens) (at symbols values tokens)
 unfolding is_statement follow allows
 ended ws w symbols values [] b = absurd b
-ended ws w symbols values (x ∷ tokens) b = part-stay (part.Words ws) (λ k. not (any_accepts integer_words k)) [] symbols values x tokens (words-end ws) b
+ended ws w symbols values (x ∷ tokens) b = part-stay (part.Words ws) (λ k. not (any_accepts integer_words k)) [] symbols values x
+    tokens (words-end ws) b
 
 -- an integer type is read as a base, before what is no further word
 pub integer-base-reads : (f : Forest) → Match (template make.IntegerBase) f → Reads class.base (node make.IntegerBase f)
@@ -211,7 +305,8 @@ unfolding template Match reader push
 integer-base-reads none m = absurd m
 integer-base-reads (more (leaf x) f) m = absurd m.0
 integer-base-reads (more w (more d f)) m = absurd m.3
-integer-base-reads (more (node p f) none) m = reads-from class.base (node make.IntegerBase (more (node p f) none)) (λ symbols values tokens b.
+integer-base-reads (more (node p f) none) m = reads-from class.base (node make.IntegerBase (more (node p f) none))
+    (λ symbols values tokens b.
     let ws = integer-home p m.0 in
     let same = ws.1 in
     simp append_assoc (join (words-read (node p f) ws.0 (is-words p ws.0 same) m.1 symbols values tokens)

@@ -69,7 +69,8 @@ abbrev pub short_test : Part → Kind → Bool
 short_test p following = not (allows (ends_before p) following) || goes 40 (symbol.Read p ∷ []) (short p) following
 
 pub short_is_read : (p : Part) → every_kind (short_test p) ≡ true
-unfolding rules chain_rules chain_tail_rules words_rules choose any_accepts accepts keyword_number punctuator_number goes short level_number ends_before allows extenders operators_from
+unfolding rules chain_rules chain_tail_rules words_rules choose any_accepts accepts keyword_number punctuator_number goes short
+    level_number ends_before allows extenders operators_from
 short_is_read (part.Chain chain.Or) = refl
 short_is_read (part.Chain _) = refl
 short_is_read (part.ChainTail chain.Or) = refl
@@ -83,7 +84,8 @@ abbrev pub rules_test : Part → Kind → Bool
 rules_test p following = not (allows (ends_before p) following) || every (λ rule. completes rule.symbols following) (rules p)
 
 pub rules_complete : (p : Part) → every_kind (rules_test p) ≡ true
-unfolding rules chain_rules chain_tail_rules words_rules any_accepts accepts keyword_number punctuator_number short level_number ends_before allows extenders operators_from pick completion completes
+unfolding rules chain_rules chain_tail_rules words_rules any_accepts accepts keyword_number punctuator_number short level_number
+    ends_before allows extenders operators_from pick completion completes
 rules_complete (part.Chain chain.Or) = refl
 rules_complete (part.Chain _) = refl
 rules_complete (part.ChainTail chain.Or) = refl

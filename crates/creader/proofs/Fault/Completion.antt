@@ -18,7 +18,8 @@ use Rattle.creader.proofs.Fault.Samples.{sample, samples, kind-sample}
 use Rattle.creader.proofs.Fault.Done.{Done, done_nothing, done_reduce, done_take, done_both}
 use Rattle.creader.proofs.Fault.Goes.{goes_on_tokens}
 use Rattle.creader.proofs.Fault.Table.{short, ends_before, pick}
-use Rattle.creader.proofs.Fault.Checks.{completion, first, completes, spares_end, pick_accepted, short_test, short_is_read, rules_test, rules_complete, leaves_token, end_is_left}
+use Rattle.creader.proofs.Fault.Checks.{completion, first, completes, spares_end, pick_accepted, short_test}
+use Rattle.creader.proofs.Fault.Checks.{short_is_read, rules_test, rules_complete, leaves_token, end_is_left}
 
 -- of an implication that is computed
 implied : (a b : Bool) → (not a || b) ≡ true → a ≡ true → b ≡ true
@@ -32,7 +33,8 @@ short_done p token tokens h = goes_on_tokens 40 (symbol.Read p ∷ []) (short p)
 
 -- before what follows a completion
 before_completion : (p : Part) (kinds : List Kind) (token : Token) (tokens : List Token)
-    → allows (ends_before p) (first kinds (kind_of token)) ≡ true → Done (symbol.Read p ∷ []) (samples (short p)) (samples kinds ++ token ∷ tokens)
+    → allows (ends_before p) (first kinds (kind_of token)) ≡ true
+    → Done (symbol.Read p ∷ []) (samples (short p)) (samples kinds ++ token ∷ tokens)
 before_completion p [] token tokens h = short_done p token tokens h
 before_completion p (kind ∷ kinds) token tokens h = short_done p (sample kind) (samples kinds ++ token ∷ tokens) (rw kind-sample h)
 
@@ -72,7 +74,8 @@ completes-append [] other following h k = k
 completes-append (symbol.Take t ∷ one) other following h k = completes-append one other following h k
 completes-append (symbol.Reduce p ∷ one) other following h k = completes-append one other following h k
 completes-append (symbol.Read p ∷ one) other following h k =
-    and_from _ _ (rw (completion-append one other, first-append) (first_so _ _ h)) (completes-append one other following (second_so _ _ h) k)
+    and_from _ _ (rw (completion-append one other, first-append) (first_so _ _ h))
+    (completes-append one other following (second_so _ _ h) k)
 
 -- symbols that leave the end token alone, behind one another
 pub spares_end-append : (one other : List Symbol) → spares_end one ≡ true → spares_end other ≡ true → spares_end (one ++ other) ≡ true
@@ -84,7 +87,8 @@ spares_end-append (symbol.Reduce p ∷ one) other h k = spares_end-append one ot
 spares_end-append (symbol.Read p ∷ one) other h k = spares_end-append one other h k
 
 -- what holds of every rule holds of the chosen one
-pub every_chosen : (q : Rule → Bool) (rules : List Rule) (kind : Kind) (rule : Rule) → every q rules ≡ true → choose rules kind ≡ Some rule → q rule ≡ true
+pub every_chosen : (q : Rule → Bool) (rules : List Rule) (kind : Kind) (rule : Rule) → every q rules ≡ true
+    → choose rules kind ≡ Some rule → q rule ≡ true
 unfolding choose
 every_chosen q [] kind rule h e = cc
 every_chosen q (r ∷ rs) kind rule h e = go (any_accepts r.on kind) refl (λ later. every_chosen q rs kind rule (second_so (q r) _ h) later)

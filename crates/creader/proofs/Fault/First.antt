@@ -1,5 +1,6 @@
 -- Where the machine stops before its end, the next token is the first that can't stand.
-use Rattle.std.proofs.Common.{◌≡◌, ◌+◌, ◌-◌, ◌<◌, ◌⊎◌, inl, inr, Bool, true, false, List, [], ◌∷◌, ◌++◌, length, take, Option, Some, None, refl, sym, ◌∙◌, subst, ap, arith, append_assoc, length-append}
+use Rattle.std.proofs.Common.{◌≡◌, ◌+◌, ◌-◌, ◌<◌, ◌⊎◌, inl, inr, Bool, true, false, List, [], ◌∷◌, ◌++◌, length, take, Option}
+use Rattle.std.proofs.Common.{Some, None, refl, sym, ◌∙◌, subst, ap, arith, append_assoc, length-append}
 use Rattle.std.proofs.lemmas.List.{take_at, length_push}
 use Rattle.csyn.specs.declared.token.Token.{Token}
 use Rattle.cgrammar.specs.declared.kind.Kind.TheVariants as kind
@@ -71,10 +72,12 @@ stops_alike (symbol.Read p ∷ symbols) values token tokens others e = go (choos
     go (Some rule) is = let e' = rw is at e in cc
 
 -- some text begins with the tokens that were taken
-goes_on : Sound → (tokens : List Token) (b : State) → Ends tokens → Reaches (start tokens) b → (token : Token) (rest : List Token) → b.tokens ≡ token ∷ rest
+goes_on : Sound → (tokens : List Token) (b : State) → Ends tokens → Reaches (start tokens) b → (token : Token) (rest : List Token)
+    → b.tokens ≡ token ∷ rest
     → (w : Way (start tokens) b) → (others : List Token) × (written : Written) × IsText written (w.front ++ others)
 goes_on sound tokens b once reached token rest is w =
-    go (stands (subst (λ x. Reaches (start x) (at w.symbols w.values b.tokens)) (sym w.split) (w.behind b.tokens)) (start_stands tokens once))
+    go (stands (subst (λ x. Reaches (start x) (at w.symbols w.values b.tokens)) (sym w.split) (w.behind b.tokens))
+    (start_stands tokens once))
   where
     go : Standing w.symbols b.tokens → (others : List Token) × (written : Written) × IsText written (w.front ++ others)
     go (above a) =
@@ -110,7 +113,8 @@ is_fault sound whole tokens symbols values token rest once reached stop = go (wa
     go w =
         let long : length tokens ≡ length w.front + length (token ∷ rest) = ap length w.split ∙ length-append w.front (token ∷ rest) in
         let place : length tokens - length (token ∷ rest) ≡ length w.front = omega arith in
-        let up_to : take (length w.front) tokens ≡ w.front = ap (take (length w.front)) w.split ∙ take_at w.front (token ∷ rest) (length w.front) refl in
+        let up_to : take (length w.front) tokens ≡ w.front =
+        ap (take (length w.front)) w.split ∙ take_at w.front (token ∷ rest) (length w.front) refl in
         let split : tokens ≡ (w.front ++ token ∷ []) ++ rest = w.split ∙ sym (append_assoc w.front (token ∷ []) rest) in
         let and_next : take (length w.front + 1) tokens ≡ w.front ++ token ∷ [] =
         ap (take (length w.front + 1)) split ∙ take_at (w.front ++ token ∷ []) rest (length w.front + 1) (length_push w.front token) in

@@ -45,16 +45,19 @@ read_last : (n : ℕ) (p : Part) (symbols : List Symbol) (token : Token) (tokens
 unfolding goes
 read_last n p symbols token tokens fewer h = go (choose (rules p) (kind_of token)) refl
   where
-    follow : (rule : Rule) → choose (rules p) (kind_of token) ≡ Some rule → (m : Move) → rule.move ≡ m → Done (symbol.Read p ∷ symbols) [] (token ∷ tokens)
+    follow : (rule : Rule) → choose (rules p) (kind_of token) ≡ Some rule → (m : Move) → rule.move ≡ m
+        → Done (symbol.Read p ∷ symbols) [] (token ∷ tokens)
     follow rule chosen move.Take is = let h' = rw (chosen, is, goes) at h in cc
     follow rule chosen move.Stay is =
-        done_rule_stay p rule symbols token [] (token ∷ tokens) tokens chosen is refl (fewer (rule.symbols ++ symbols) [] (rw (chosen, is, goes) at h))
+        done_rule_stay p rule symbols token [] (token ∷ tokens) tokens chosen is refl
+        (fewer (rule.symbols ++ symbols) [] (rw (chosen, is, goes) at h))
 
     go : (found : Option Rule) → choose (rules p) (kind_of token) ≡ found → Done (symbol.Read p ∷ symbols) [] (token ∷ tokens)
     go None chosen = let h' = rw (chosen, goes) at h in cc
     go (Some rule) chosen = follow rule chosen rule.move refl
 
-read_more : (n : ℕ) (p : Part) (symbols : List Symbol) (kind : Kind) (kinds : List Kind) (token : Token) (tokens : List Token) → Fewer n token tokens
+read_more : (n : ℕ) (p : Part) (symbols : List Symbol) (kind : Kind) (kinds : List Kind) (token : Token) (tokens : List Token)
+    → Fewer n token tokens
     → goes (suc n) (symbol.Read p ∷ symbols) (kind ∷ kinds) (kind_of token) ≡ true
     → Done (symbol.Read p ∷ symbols) (samples (kind ∷ kinds)) (token ∷ tokens)
 unfolding goes

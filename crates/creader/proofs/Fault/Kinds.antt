@@ -46,7 +46,8 @@ later_punctuators =
     ∷ punctuator.Assign ∷ punctuator.Comma ∷ punctuator.Hash ∷ []
 
 abbrev later_kinds : List Kind
-later_kinds = kind.RegisterName ∷ kind.LocationName ∷ kind.Number ∷ kind.Character ∷ kind.Literal ∷ kind.Standard ∷ kind.Uint32 ∷ kind.End ∷ []
+later_kinds = kind.RegisterName ∷ kind.LocationName ∷ kind.Number ∷ kind.Character ∷ kind.Literal ∷ kind.Standard ∷ kind.Uint32
+    ∷ kind.End ∷ []
 
 -- each keyword stands at its number
 keyword_there : (k : Keyword) → get_or (keyword.Attribute ∷ later_keywords) (keyword_number k) keyword.Attribute ≡ k
@@ -55,7 +56,8 @@ keyword_there keyword.Attribute = refl
 keyword_there _ = refl
 
 -- each punctuator stands at its number
-punctuator_there : (m : Punctuator) → get_or (punctuator.ShiftLeftAssign ∷ later_punctuators) (punctuator_number m) punctuator.ShiftLeftAssign ≡ m
+punctuator_there : (m : Punctuator) → get_or (punctuator.ShiftLeftAssign ∷ later_punctuators) (punctuator_number m)
+    punctuator.ShiftLeftAssign ≡ m
 unfolding punctuator_number
 punctuator_there punctuator.ShiftLeftAssign = refl
 punctuator_there _ = refl
@@ -86,4 +88,5 @@ every_kind_at p h = at
     at (kind.Keyword k) = subst (λ x. p (kind.Keyword x) ≡ true) (keyword_there k)
         (every_at (λ x. p (kind.Keyword x)) keyword.Attribute later_keywords (keyword_number k) (first_so _ _ (second_so _ _ h)))
     at (kind.Punctuator m) = subst (λ x. p (kind.Punctuator x) ≡ true) (punctuator_there m)
-        (every_at (λ x. p (kind.Punctuator x)) punctuator.ShiftLeftAssign later_punctuators (punctuator_number m) (second_so _ _ (second_so _ _ h)))
+        (every_at (λ x. p (kind.Punctuator x)) punctuator.ShiftLeftAssign later_punctuators (punctuator_number m)
+        (second_so _ _ (second_so _ _ h)))

@@ -58,10 +58,12 @@ before_take t symbols values token tokens b fits way = record {
   values = way.values;
   split = ap (λ x. token ∷ x) way.split;
   behind = λ others. next (take_step t symbols values token (way.front ++ others) fits) (way.behind others);
-  ahead = λ next_one rest others e. next (take_step t symbols values token (way.front ++ next_one ∷ others) fits) (way.ahead next_one rest others e);
+  ahead = λ next_one rest others e. next (take_step t symbols values token (way.front ++ next_one ∷ others) fits)
+      (way.ahead next_one rest others e);
 }
 
-before_taking_rule : (p : Part) (rule : Rule) (symbols : List Symbol) (values : List Written) (token : Token) (tokens : List Token) (b : State)
+before_taking_rule : (p : Part) (rule : Rule) (symbols : List Symbol) (values : List Written) (token : Token) (tokens : List Token)
+    (b : State)
     → choose (rules p) (kind_of token) ≡ Some rule → rule.move ≡ move.Take
     → Way (at (rule.symbols ++ symbols) (leaf token ∷ values) tokens) b → Way (at (symbol.Read p ∷ symbols) values (token ∷ tokens)) b
 before_taking_rule p rule symbols values token tokens b chosen takes way = record {
@@ -73,10 +75,12 @@ before_taking_rule p rule symbols values token tokens b chosen takes way = recor
   ahead = λ next_one rest others e. next (step_to (way.front ++ next_one ∷ others)) (way.ahead next_one rest others e);
 }
   where
-    step_to : (others : List Token) → step (symbol.Read p ∷ symbols) values (token ∷ others) ≡ Some (at (rule.symbols ++ symbols) (leaf token ∷ values) others)
+    step_to : (others : List Token) → step (symbol.Read p ∷ symbols) values (token ∷ others)
+        ≡ Some (at (rule.symbols ++ symbols) (leaf token ∷ values) others)
     step_to others = rw takes at (read_step p rule symbols values token others chosen)
 
-before_staying_rule : (p : Part) (rule : Rule) (symbols : List Symbol) (values : List Written) (token : Token) (tokens : List Token) (b : State)
+before_staying_rule : (p : Part) (rule : Rule) (symbols : List Symbol) (values : List Written) (token : Token) (tokens : List Token)
+    (b : State)
     → choose (rules p) (kind_of token) ≡ Some rule → rule.move ≡ move.Stay
     → Way (at (rule.symbols ++ symbols) values (token ∷ tokens)) b → Way (at (symbol.Read p ∷ symbols) values (token ∷ tokens)) b
 before_staying_rule p rule symbols values token tokens b chosen stays way =
@@ -122,10 +126,12 @@ before_step (symbol.Take t ∷ symbols) values (token ∷ tokens) m b e way =
     before_take t symbols values token tokens b found.0 (subst (λ x. Way x b) (sym found.1) way)
 before_step (symbol.Read p ∷ symbols) values [] m b e way = cc
 before_step (symbol.Read p ∷ symbols) values (token ∷ tokens) m b e way =
-    let found = followed p symbols values token tokens m e in go found.rule found.rule.move refl found.chosen (subst (λ x. Way x b) (sym found.is) way)
+    let found = followed p symbols values token tokens m e in
+    go found.rule found.rule.move refl found.chosen (subst (λ x. Way x b) (sym found.is) way)
   where
     go : (rule : Rule) (move : Move) → rule.move ≡ move → choose (rules p) (kind_of token) ≡ Some rule
-        → Way (moved rule.move (rule.symbols ++ symbols) values token tokens) b → Way (at (symbol.Read p ∷ symbols) values (token ∷ tokens)) b
+        → Way (moved rule.move (rule.symbols ++ symbols) values token tokens) b
+        → Way (at (symbol.Read p ∷ symbols) values (token ∷ tokens)) b
     go rule move.Take is chosen way = before_taking_rule p rule symbols values token tokens b chosen is (rw is at way)
     go rule move.Stay is chosen way = before_staying_rule p rule symbols values token tokens b chosen is (rw is at way)
 

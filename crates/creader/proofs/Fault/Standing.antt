@@ -1,5 +1,6 @@
 -- What the symbols are on the way from the start: they can be completed, and the end token is taken last.
-use Rattle.std.proofs.Common.{◌≡◌, ◌≢◌, ◌⊎◌, inl, inr, Bool, true, not, ◌&&◌, List, [], ◌∷◌, ◌++◌, All, Some, refl, sym, subst, append_assoc}
+use Rattle.std.proofs.Common.{◌≡◌, ◌≢◌, ◌⊎◌, inl, inr, Bool, true, not, ◌&&◌, List, [], ◌∷◌, ◌++◌}
+use Rattle.std.proofs.Common.{All, Some, refl, sym, subst, append_assoc}
 use Rattle.std.proofs.lemmas.List.Elements.{All-head, All-tail}
 use Rattle.std.specs.Cmp.{first_so, second_so}
 use Rattle.csyn.specs.declared.token.Token.{Token}
@@ -30,10 +31,15 @@ abbrev pub Ends : List Token → Type 0
 Ends [] = ⊥
 Ends (token ∷ tokens) = ((kind_of token ≡ kind.End) × (tokens ≡ [])) ⊎ ((kind_of token ≢ kind.End) × Ends tokens)
 
-ends_behind : (body : List Token) (end : Token) → kind_of end ≡ kind.End → All (λ token. kind_of token ≢ kind.End) body → Ends (body ++ end ∷ [])
+ends_behind : (body : List Token) (end : Token) → kind_of end ≡ kind.End → All (λ token. kind_of token ≢ kind.End) body
+    → Ends (body ++ end ∷ [])
 ends_behind [] end is none = inl (is, refl)
 ends_behind (token ∷ body) end is none =
-    inr (All-head (λ t. kind_of t ≢ kind.End) token body none, ends_behind body end is (All-tail (λ t. kind_of t ≢ kind.End) token body none))
+    inr (
+      All-head (λ t. kind_of t ≢ kind.End) token body none,
+      ends_behind body end is
+          (All-tail (λ t. kind_of t ≢ kind.End) token body none),
+    )
 
 -- that the end token stands last and nowhere else, said token by token
 pub ends : (tokens : List Token) → EndsOnce tokens → Ends tokens
@@ -93,8 +99,20 @@ follow_rule p rule m upper values token tokens chosen is can spares once = go m 
     behind takes (inr (not_it, more)) = more
 
     go : (m : Move) → rule.move ≡ m → let b = moved m (rule.symbols ++ (upper ++ bottom)) values token tokens in Above b.symbols b.tokens
-    go move.Take is = record { upper = rule.symbols ++ upper; is = sym (append_assoc rule.symbols upper bottom); can_end = can_end; spares = spares'; ahead = behind is once }
-    go move.Stay is = record { upper = rule.symbols ++ upper; is = sym (append_assoc rule.symbols upper bottom); can_end = can_end; spares = spares'; ahead = once }
+    go move.Take is = record {
+      upper = rule.symbols ++ upper;
+      is = sym (append_assoc rule.symbols upper bottom);
+      can_end = can_end;
+      spares = spares';
+      ahead = behind is once;
+    }
+    go move.Stay is = record {
+      upper = rule.symbols ++ upper;
+      is = sym (append_assoc rule.symbols upper bottom);
+      can_end = can_end;
+      spares = spares';
+      ahead = once;
+    }
 
 -- a step keeps what stands above the last two symbols able to end
 step_above : (upper : List Symbol) (values : List Written) (tokens : List Token) (b : State) → step (upper ++ bottom) values tokens ≡ Some b
@@ -110,11 +128,19 @@ step_above [] values (token ∷ tokens) b e can spares once =
     go is (inr (not_it, more)) = absurd (not_it is)
 step_above (symbol.Reduce p ∷ upper) values (token ∷ tokens) b e can spares once =
     let same : at (upper ++ bottom) (reduce p values) (token ∷ tokens) ≡ b = cc in
-    subst (λ x. Standing x.symbols x.tokens) same (above (record { upper = upper; is = refl; can_end = can; spares = spares; ahead = once }))
+    subst (λ x. Standing x.symbols x.tokens) same (above (record
+    { upper = upper; is = refl; can_end = can; spares = spares; ahead = once }))
 step_above (symbol.Take t ∷ upper) values (token ∷ tokens) b e can spares once =
     let found = taken t (upper ++ bottom) values token tokens b e in
     subst (λ x. Standing x.symbols x.tokens) found.1
-    (above (record { upper = upper; is = refl; can_end = can; spares = second_so _ _ spares; ahead = not_end t _ token tokens spares found.0 once }))
+    (above (record {
+      upper = upper;
+      is = refl;
+      can_end = can;
+      spares = second_so _ _ spares;
+      ahead =
+          not_end t _ token tokens spares found.0 once;
+    }))
 step_above (symbol.Read p ∷ upper) values (token ∷ tokens) b e can spares once =
     let found = followed p (upper ++ bottom) values token tokens b e in
     subst (λ x. Standing x.symbols x.tokens) found.is

@@ -56,12 +56,14 @@ pub taken : (t : Terminal) (symbols : List Symbol) (values : List Written) (toke
 unfolding step
 taken t symbols values token tokens b e = go (accepts t (kind_of token)) refl
   where
-    go : (answer : Bool) → accepts t (kind_of token) ≡ answer → (accepts t (kind_of token) ≡ true) × (at symbols (leaf token ∷ values) tokens ≡ b)
+    go : (answer : Bool) → accepts t (kind_of token) ≡ answer
+        → (accepts t (kind_of token) ≡ true) × (at symbols (leaf token ∷ values) tokens ≡ b)
     go true fits = (fits, let e' = rw fits at e in cc)
     go false fails = let e' = rw fails at e in cc
 
 -- a part was replaced because a rule was chosen
-pub record Followed (p : Part) (symbols : List Symbol) (values : List Written) (token : Token) (tokens : List Token) (b : State) : Type 0 where
+pub record Followed (p : Part) (symbols : List Symbol) (values : List Written) (token : Token) (tokens : List Token) (b : State) :
+    Type 0 where
   pub rule : Rule
   pub chosen : choose (rules p) (kind_of token) ≡ Some rule
   pub is : moved rule.move (rule.symbols ++ symbols) values token tokens ≡ b

@@ -29,11 +29,13 @@ pub read-whole : Sound → (tokens : List Token) (h : Held) → Run (start token
 unfolding turned entries entries_of
 read-whole sound tokens h run =
     let found = sound tokens run.values run.reaches in
-    let all : h.entries ≡ entries_of 0 (turned (found.0 ∷ []) none) = run.represents.entries ∙ ap (λ vs. entries_of 0 (turned vs none)) found.1 in
+    let all : h.entries ≡ entries_of 0 (turned (found.0 ∷ []) none) =
+    run.represents.entries ∙ ap (λ vs. entries_of 0 (turned vs none)) found.1 in
     (found.0, found.2, all ∙ append-nil (entries 0 found.0))
 
 -- what stops at a token names the first fault
-pub stopped : Sound → Whole → (tokens : List Token) (place : ℕ) → EndsOnce tokens → place < length tokens → Stops (start tokens) (drop place tokens)
+pub stopped : Sound → Whole → (tokens : List Token) (place : ℕ) → EndsOnce tokens → place < length tokens
+    → Stops (start tokens) (drop place tokens)
     → IsFirstFault tokens place
 stopped sound whole tokens place once within stop =
     let left : length (drop place tokens) ≡ length tokens - place = length-drop place tokens in
@@ -77,5 +79,6 @@ refused-at sound whole tokens place token kind before after once is within same 
     stopped sound whole tokens place once within (subst (λ ts. Stops (start tokens) ts) (sym here') stop)
 
 -- behind the last token
-pub at-end : (tokens : List Token) (place : ℕ) (h : Held) → length tokens ≤ place → Run (start tokens) h (drop place tokens) → Run (start tokens) h []
+pub at-end : (tokens : List Token) (place : ℕ) (h : Held) → length tokens ≤ place → Run (start tokens) h (drop place tokens)
+    → Run (start tokens) h []
 at-end tokens place h over run = subst (λ ts. Run (start tokens) h ts) (drop_all place tokens over) run

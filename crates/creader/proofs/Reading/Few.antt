@@ -65,7 +65,8 @@ one-more (symbol.Reduce p ∷ symbols) values tokens = omega (arith, made-reduce
 one-more (symbol.Take t ∷ symbols) values [] = tt
 one-more (symbol.Take t ∷ symbols) values (token ∷ tokens) = one-by-token (accepts t (kind_of token)) symbols values token tokens
 one-more (symbol.Read part ∷ symbols) values [] = tt
-one-more (symbol.Read part ∷ symbols) values (token ∷ tokens) = one-by-rule (choose (rules part) (kind_of token)) symbols values token tokens
+one-more (symbol.Read part ∷ symbols) values (token ∷ tokens) =
+    one-by-rule (choose (rules part) (kind_of token)) symbols values token tokens
 
 made-by : {a b : State} (reading : Reaches a b) → made b.values ≤ made a.values + count reading
 unfolding count OneMore

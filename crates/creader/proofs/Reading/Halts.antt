@@ -1,5 +1,6 @@
 -- Each reading stops, and takes no more steps than its tokens pay for.
-use Rattle.std.specs.Prelude.{◌≡◌, ℕ, suc, zero, ◌+◌, ◌*◌, ◌<◌, ◌≤◌, Bool, true, false, List, [], ◌∷◌, ◌++◌, length, Option, Some, None, refl, cond}
+use Rattle.std.specs.Prelude.{◌≡◌, ℕ, suc, zero, ◌+◌, ◌*◌, ◌<◌, ◌≤◌, Bool, true, false, List, []}
+use Rattle.std.specs.Prelude.{◌∷◌, ◌++◌, length, Option, Some, None, refl, cond}
 use Rattle.std.proofs.Common.{arith, sym, subst}
 use Rattle.csyn.specs.declared.token.Token.{Token}
 use Rattle.cgrammar.specs.Kind.{kind_of}
@@ -13,7 +14,8 @@ use Rattle.creader.specs.declared.part.Symbol.{Symbol}
 use Rattle.creader.specs.declared.part.Symbol.TheVariants as symbol
 use Rattle.creader.specs.Machine.{State, at, start, step, moved, follow_rule, Reaches, here, next, count, each_token, most_steps}
 use Rattle.creader.specs.Rules.{Rule, rules, choose}
-use Rattle.creader.proofs.Reading.Weight.{weigh, kept, ahead, symbol_cost, cost, is_sure, skipped, begun, lighter, rule_paid, take_paid, made_paid}
+use Rattle.creader.proofs.Reading.Weight.{weigh, kept, ahead, symbol_cost, cost, is_sure, skipped, begun}
+use Rattle.creader.proofs.Reading.Weight.{lighter, rule_paid, take_paid, made_paid}
 
 -- what the symbols weigh, and what the tokens that are left will bring
 unfoldable left : State → ℕ
@@ -24,7 +26,8 @@ Less : State → Option State → Type 0
 Less a None = Unit {0}
 Less a (Some b) = left b < left a
 
-less-by-move : (part : Part) (rule : Rule) (symbols : List Symbol) (values : List Written) (token : Token) (tokens : List Token) (m : Move) → m ≡ rule.move
+less-by-move : (part : Part) (rule : Rule) (symbols : List Symbol) (values : List Written) (token : Token) (tokens : List Token)
+    (m : Move) → m ≡ rule.move
     → choose (rules part) (kind_of token) ≡ Some rule
     → Less (at (symbol.Read part ∷ symbols) values (token ∷ tokens)) (Some (moved m (rule.symbols ++ symbols) values token tokens))
 unfolding Less left
@@ -46,14 +49,16 @@ unfolding Less left
 less-by-token t symbols values token tokens true = let paid = take_paid t symbols in omega arith
 less-by-token t symbols values token tokens false = tt
 
-less-at : (symbols : List Symbol) (values : List Written) (tokens : List Token) → Less (at symbols values tokens) (step symbols values tokens)
+less-at : (symbols : List Symbol) (values : List Written) (tokens : List Token)
+    → Less (at symbols values tokens) (step symbols values tokens)
 unfolding Less left step
 less-at [] values tokens = tt
 less-at (symbol.Reduce p ∷ symbols) values tokens = let paid = made_paid p symbols in omega arith
 less-at (symbol.Take t ∷ symbols) values [] = tt
 less-at (symbol.Take t ∷ symbols) values (token ∷ tokens) = less-by-token t symbols values token tokens (accepts t (kind_of token))
 less-at (symbol.Read part ∷ symbols) values [] = tt
-less-at (symbol.Read part ∷ symbols) values (token ∷ tokens) = less-by-rule part symbols values token tokens (choose (rules part) (kind_of token)) refl
+less-at (symbol.Read part ∷ symbols) values (token ∷ tokens) =
+    less-by-rule part symbols values token tokens (choose (rules part) (kind_of token)) refl
 
 less : (a b : State) → step a.symbols a.values a.tokens ≡ Some b → left b < left a
 unfolding Less
@@ -67,7 +72,8 @@ pub record Halts (from : State) : Type 0 where
   pub reached : Reaches from (at symbols values rest)
   pub stuck : step symbols values rest ≡ None
 
-halts-by : (a : State) (found : Option State) → step a.symbols a.values a.tokens ≡ found → ((b : State) → left b < left a → Halts b) → Halts a
+halts-by : (a : State) (found : Option State) → step a.symbols a.values a.tokens ≡ found → ((b : State) → left b < left a → Halts b)
+    → Halts a
 halts-by a None e later = record { symbols = a.symbols; values = a.values; rest = a.tokens; reached = here; stuck = e }
 halts-by a (Some b) e later =
     let halts = later b (less a b e) in

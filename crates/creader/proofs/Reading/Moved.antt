@@ -19,9 +19,11 @@ pub record Lighter (symbols : List Symbol) (before after : Held) : Type 0 where
   pub weighs : weigh after.symbols < weigh symbols
   pub place : after.place ≡ before.place
 
-moved_by : (rule : Rule) (way : Move) (part : Part) (kind : Kind) (symbols : List Symbol) (h b : Held) → way ≡ rule.move → choose (rules part) kind ≡ Some rule
+moved_by : (rule : Rule) (way : Move) (part : Part) (kind : Kind) (symbols : List Symbol) (h b : Held) → way ≡ rule.move
+    → choose (rules part) kind ≡ Some rule
     → moved way (pushed rule.symbols (record h { symbols = symbols })) ≡ (progress.Moved, b) → Lighter (symbol.Read part ∷ symbols) h b
-moved_by rule move.Take part kind symbols h b way chosen e = let other : progress.Taken ≡ progress.Moved = ap (λ (x : Progress × Held). x.0) e in absurd (cc)
+moved_by rule move.Take part kind symbols h b way chosen e =
+    let other : progress.Taken ≡ progress.Moved = ap (λ (x : Progress × Held). x.0) e in absurd (cc)
 moved_by rule move.Stay part kind symbols h b way chosen e =
     let same : record h { symbols = rule.symbols ++ symbols } ≡ b = ap (λ (x : Progress × Held). x.1) e in
     subst (Lighter (symbol.Read part ∷ symbols) h) same
@@ -29,12 +31,14 @@ moved_by rule move.Stay part kind symbols h b way chosen e =
 
 read_by : (found : Option Rule) (part : Part) (kind : Kind) (symbols : List Symbol) (h b : Held) → choose (rules part) kind ≡ found
     → followed found (record h { symbols = symbols }) ≡ (progress.Moved, b) → Lighter (symbol.Read part ∷ symbols) h b
-read_by None part kind symbols h b chosen e = let other : progress.Stuck ≡ progress.Moved = ap (λ (x : Progress × Held). x.0) e in absurd (cc)
+read_by None part kind symbols h b chosen e = let other : progress.Stuck ≡ progress.Moved = ap (λ (x : Progress × Held). x.0) e in
+    absurd (cc)
 read_by (Some rule) part kind symbols h b chosen e = moved_by rule rule.move part kind symbols h b refl chosen e
 
 -- taking a token is no step that leaves it
 take_by : (accepted : Bool) (symbols : List Symbol) (h b : Held) {P : Type 0}
-    → ◌≡◌ {A = Progress × Held} (cond accepted (progress.Taken, taken (record h { symbols = symbols })) (progress.Stuck, record h { symbols = symbols }))
+    → ◌≡◌ {A = Progress × Held} (cond accepted (progress.Taken, taken (record h { symbols = symbols }))
+    (progress.Stuck, record h { symbols = symbols }))
     (progress.Moved, b) → P
 take_by true symbols h b e = let other : progress.Taken ≡ progress.Moved = ap (λ (x : Progress × Held). x.0) e in absurd (cc)
 take_by false symbols h b e = let other : progress.Stuck ≡ progress.Moved = ap (λ (x : Progress × Held). x.0) e in absurd (cc)

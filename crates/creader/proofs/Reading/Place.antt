@@ -57,5 +57,6 @@ pub fed-place : (kind : Kind) (a b : Held) → Feeds kind true a b → b.place �
 unfolding Counts
 fed-place kind a b feeds =
     let count : b.place ≡ feeds.between.place + 1 =
-    subst (λ (x : Progress × Held). x.1.place ≡ counted x.0 feeds.between.place) feeds.last (counts-at feeds.between.symbols kind feeds.between) in
+    subst (λ (x : Progress × Held). x.1.place ≡ counted x.0 feeds.between.place) feeds.last
+    (counts-at feeds.between.symbols kind feeds.between) in
     count ∙ ap (λ n. n + 1) (moves-place feeds.moves)

@@ -54,7 +54,8 @@ one-entry values production parts =
     ∙ ap (λ xs. xs ++ record { production = production; first = at; end = at + width parts } ∷ []) (sym (entries-turned values parts))
 
 -- the first of the parts begins where they begin, or what comes next does
-first-part : (front : List ℕ) (at : ℕ) (parts : Forest) (place : ℕ) → place ≡ at + width parts → get_or (front ++ firsts_of at parts) (length front) place ≡ at
+first-part : (front : List ℕ) (at : ℕ) (parts : Forest) (place : ℕ) → place ≡ at + width parts
+    → get_or (front ++ firsts_of at parts) (length front) place ≡ at
 unfolding width firsts_of
 first-part front at none place e =
     ap (λ xs. get_or xs (length front) place) (append-nil front) ∙ past front place ∙ e ∙ omega arith
@@ -79,7 +80,12 @@ reduced-by h production parts values firsts entries-are place below =
     record {
       firsts = ap (λ xs. xs ++ get_or h.firsts (length h.firsts - length (template production)) h.place ∷ []) kept
           ∙ ap (λ n. front ++ n ∷ []) begins ∙ sym (one-first values production parts);
-      entries = ap (λ xs. xs ++ record { production = production; first = get_or h.firsts (length h.firsts - length (template production)) h.place; end = h.place } ∷ []) entries-are
+      entries = ap (λ xs. xs ++ record {
+        production = production;
+        first =
+            get_or h.firsts (length h.firsts - length (template production)) h.place;
+        end = h.place;
+      } ∷ []) entries-are
           ∙ ap (λ n. entries_of 0 (turned values parts) ++ record { production = production; first = n; end = h.place } ∷ []) begins
           ∙ ap (λ n. entries_of 0 (turned values parts) ++ record { production = production; first = at; end = n } ∷ []) ends
           ∙ sym (one-entry values production parts);
@@ -87,13 +93,15 @@ reduced-by h production parts values firsts entries-are place below =
     }
 
 -- a production makes of the places what it makes of the values
-pub represents-reduced : (h : Held) (values : List Written) (production : Production) → Represents h values → Represents (reduced production h) (reduce production values)
+pub represents-reduced : (h : Held) (values : List Written) (production : Production) → Represents h values
+    → Represents (reduced production h) (reduce production values)
 unfolding reduce count
 represents-reduced h values production r =
     let n = length (template production) in
     let g = gather n values none in
     let same = turned-gather n values none in
     let counts = count-gather n values none in
-    let many : length h.firsts ≡ length values = ap length r.firsts ∙ length-firsts 0 (turned values none) ∙ count-turned values none ∙ add-zero (length values) in
+    let many : length h.firsts ≡ length values = ap length r.firsts ∙ length-firsts 0 (turned values none)
+    ∙ count-turned values none ∙ add-zero (length values) in
     reduced-by h production g.0 g.1 (r.firsts ∙ ap (firsts_of 0) same) (r.entries ∙ ap (entries_of 0) same) (r.place ∙ ap width same)
     (ap (λ m. m - n) many ∙ sym counts.1)

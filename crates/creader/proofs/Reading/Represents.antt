@@ -46,7 +46,8 @@ regroup : {A : Type 0} (a b c : List A) → a ++ (b ++ c) ≡ (a ++ (b ++ [])) +
 regroup a b c = simp (append_assoc, append-nil)
 
 -- the width with one more value
-width-more : (value : Written) (values : List Written) → width (turned values (more value none)) ≡ width (turned values none) + length (spell value)
+width-more : (value : Written) (values : List Written) → width (turned values (more value none))
+    ≡ width (turned values none) + length (spell value)
 unfolding width
 width-more value values = omega (arith, width-turned values (more value none), length-append (spell value) [])
 
@@ -105,7 +106,8 @@ firsts-one : (token : Token) (values : List Written)
 unfolding firsts_of
 firsts-one token values = firsts-turned values (more (leaf token) none)
 
-pub entries-one : (token : Token) (values : List Written) → entries_of 0 (turned values (more (leaf token) none)) ≡ entries_of 0 (turned values none)
+pub entries-one : (token : Token) (values : List Written) → entries_of 0 (turned values (more (leaf token) none))
+    ≡ entries_of 0 (turned values none)
 unfolding entries entries_of
 entries-one token values = entries-turned values (more (leaf token) none) ∙ append-nil _
 

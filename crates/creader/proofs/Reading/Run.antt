@@ -63,7 +63,8 @@ not-fed from token tokens before after feeds run =
     }
 
 -- the productions behind the last token
-finished-at : (from : State) (symbols : List Symbol) (h after : Held) (values : List Written) → Reaches from (at symbols values []) → Represents h values
+finished-at : (from : State) (symbols : List Symbol) (h after : Held) (values : List Written) → Reaches from (at symbols values [])
+    → Represents h values
     → ◌≡◌ {A = Bool × Held} (finished symbols h) (true, after) → Run from (record after { symbols = [] }) []
 unfolding machine.step
 finished-at from [] h after values reaches r e =
@@ -71,7 +72,8 @@ finished-at from [] h after values reaches r e =
     let kept : Represents after values = subst (λ x. Represents x values) same r in
     record { values = values; reaches = reaches; represents = with-symbols [] after values kept }
 finished-at from (symbol.Reduce production ∷ symbols) h after values reaches r e =
-    finished-at from symbols (reduced production (record h { symbols = symbols })) after (reduce production values) (onwards reaches (next refl here))
+    finished-at from symbols (reduced production (record h { symbols = symbols })) after (reduce production values)
+    (onwards reaches (next refl here))
     (represents-reduced (record h { symbols = symbols }) values production (with-symbols symbols h values r)) e
 finished-at from (symbol.Take terminal ∷ symbols) h after values reaches r e =
     let other : false ≡ true = ap (λ (x : Bool × Held). x.0) e in absurd (cc)
@@ -89,13 +91,15 @@ unfolding machine.step
 unfinished-at from [] h after values reaches e =
     let other : true ≡ false = ap (λ (x : Bool × Held). x.0) e in absurd (cc)
 unfinished-at from (symbol.Reduce production ∷ symbols) h after values reaches e =
-    unfinished-at from symbols (reduced production (record h { symbols = symbols })) after (reduce production values) (onwards reaches (next refl here)) e
+    unfinished-at from symbols (reduced production (record h { symbols = symbols })) after (reduce production values)
+    (onwards reaches (next refl here)) e
 unfinished-at from (symbol.Take terminal ∷ symbols) h after values reaches e =
     (record { symbols = symbol.Take terminal ∷ symbols; values = values; reaches = reaches; stops = refl }, λ none. absurd (cc))
 unfinished-at from (symbol.Read part ∷ symbols) h after values reaches e =
     (record { symbols = symbol.Read part ∷ symbols; values = values; reaches = reaches; stops = refl }, λ none. absurd (cc))
 
 -- something is left that wants a token
-pub not-ended : (from : State) (before after : Held) → ◌≡◌ {A = Bool × Held} (finished before.symbols before) (false, after) → Run from before []
+pub not-ended : (from : State) (before after : Held) → ◌≡◌ {A = Bool × Held} (finished before.symbols before) (false, after)
+    → Run from before []
     → (stop : Stops from []) × (stop.symbols ≡ [] → ⊥)
 not-ended from before after e run = unfinished-at from before.symbols before after run.values run.reaches e

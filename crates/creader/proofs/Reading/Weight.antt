@@ -1,5 +1,6 @@
 -- What reading costs: each step is paid out of what the symbols weigh, and each token that is taken brings more.
-use Rattle.std.specs.Prelude.{◌≡◌, ℕ, ◌+◌, ◌<◌, ◌≤◌, max, Bool, true, false, not, ◌||◌, ◌&&◌, nat_le, if◌then◌else◌, List, [], ◌∷◌, ◌++◌, Some, refl, cond}
+use Rattle.std.specs.Prelude.{◌≡◌, ℕ, ◌+◌, ◌<◌, ◌≤◌, max, Bool, true, false, not, ◌||◌, ◌&&◌, nat_le}
+use Rattle.std.specs.Prelude.{if◌then◌else◌, List, [], ◌∷◌, ◌++◌, Some, refl, cond}
 use Rattle.std.proofs.Common.{arith, ap, subst, leb-true}
 use Rattle.std.specs.Cmp.{first_so, second_so}
 use Rattle.cgrammar.specs.declared.kind.Kind.{Kind}
@@ -144,7 +145,8 @@ kept (symbol ∷ symbols) = skipped (symbol_cost symbol) + kept symbols
 -- the steps before the next token, at most: some symbol begins it, up to the first that surely takes one
 unfoldable pub ahead : List Symbol → ℕ
 ahead [] = 0
-ahead (symbol ∷ symbols) = if is_sure (symbol_cost symbol) then begun (symbol_cost symbol) else max (begun (symbol_cost symbol)) (ahead symbols)
+ahead (symbol ∷ symbols) = if is_sure (symbol_cost symbol) then begun (symbol_cost symbol) else max (begun (symbol_cost symbol))
+    (ahead symbols)
 
 unfoldable pub weigh : List Symbol → ℕ
 weigh symbols = kept symbols + ahead symbols
@@ -274,16 +276,19 @@ kept_append [] symbols = omega arith
 kept_append (symbol ∷ front) symbols = omega (arith, kept_append front symbols)
 
 ahead_append_by : (sure stop : Bool) (first front all rest : ℕ) → all ≡ cond stop front (max front rest)
-    → cond sure first (max first all) ≡ cond (sure || stop) (cond sure first (max first front)) (max (cond sure first (max first front)) rest)
+    → cond sure first (max first all) ≡ cond (sure || stop) (cond sure first (max first front))
+    (max (cond sure first (max first front)) rest)
 ahead_append_by true stop first front all rest h = refl
 ahead_append_by false true first front all rest h = ap (λ n. max first n) h
 ahead_append_by false false first front all rest h = omega (arith, h)
 
-ahead_append : (front symbols : List Symbol) → ahead (front ++ symbols) ≡ cond (stops front) (ahead front) (max (ahead front) (ahead symbols))
+ahead_append : (front symbols : List Symbol) → ahead (front ++ symbols)
+    ≡ cond (stops front) (ahead front) (max (ahead front) (ahead symbols))
 unfolding ahead stops
 ahead_append [] symbols = omega arith
 ahead_append (symbol ∷ front) symbols =
-    ahead_append_by (is_sure (symbol_cost symbol)) (stops front) (begun (symbol_cost symbol)) (ahead front) (ahead (front ++ symbols)) (ahead symbols)
+    ahead_append_by (is_sure (symbol_cost symbol)) (stops front) (begun (symbol_cost symbol)) (ahead front)
+    (ahead (front ++ symbols)) (ahead symbols)
     (ahead_append front symbols)
 
 -- no symbol has more steps before a token than any
@@ -300,13 +305,16 @@ ahead_most_by false first rest h k = omega arith
 ahead_most : (symbols : List Symbol) → ahead symbols ≤ most_ahead
 unfolding ahead
 ahead_most [] = omega arith
-ahead_most (symbol ∷ symbols) = ahead_most_by (is_sure (symbol_cost symbol)) (begun (symbol_cost symbol)) (ahead symbols) (begun_most symbol) (ahead_most symbols)
+ahead_most (symbol ∷ symbols) = ahead_most_by (is_sure (symbol_cost symbol)) (begun (symbol_cost symbol)) (ahead symbols)
+    (begun_most symbol) (ahead_most symbols)
 
 stay_by : (sure stop : Bool) (skip begin new front rest behind : ℕ)
     → cond stop (nat_le (1 + new + front) (skip + begin)) (not sure && (nat_le (1 + new) skip && nat_le front begin)) ≡ true
     → new + rest + cond stop front (max front behind) < skip + rest + cond sure begin (max begin behind)
-stay_by true true skip begin new front rest behind h = let paid : 1 + new + front ≤ skip + begin = leb-true (1 + new + front) (skip + begin) h in omega arith
-stay_by false true skip begin new front rest behind h = let paid : 1 + new + front ≤ skip + begin = leb-true (1 + new + front) (skip + begin) h in omega arith
+stay_by true true skip begin new front rest behind h =
+    let paid : 1 + new + front ≤ skip + begin = leb-true (1 + new + front) (skip + begin) h in omega arith
+stay_by false true skip begin new front rest behind h =
+    let paid : 1 + new + front ≤ skip + begin = leb-true (1 + new + front) (skip + begin) h in omega arith
 stay_by true false skip begin new front rest behind h = absurd (cc)
 stay_by false false skip begin new front rest behind h =
     let steps : 1 + new ≤ skip = leb-true (1 + new) skip (first_so (nat_le (1 + new) skip) (nat_le front begin) h) in
@@ -314,19 +322,22 @@ stay_by false false skip begin new front rest behind h =
     omega (arith, steps, first)
 
 -- each step into what a rule says is paid
-paid : (part : Part) (kind : Kind) (rule : Rule) (m : Move) → choose (rules part) kind ≡ Some rule → rule.move ≡ m → pays (cost part) m rule.symbols ≡ true
+paid : (part : Part) (kind : Kind) (rule : Rule) (m : Move) → choose (rules part) kind ≡ Some rule → rule.move ≡ m
+    → pays (cost part) m rule.symbols ≡ true
 unfolding is_light is_paid
 paid part kind rule m chosen same =
     subst (λ m. pays (cost part) m rule.symbols ≡ true) same
     (every_chosen (is_paid (cost part)) (rules part) kind rule (second_so _ _ (all_light part)) chosen)
 
 -- a step that takes no token leaves less
-pub lighter : (part : Part) (kind : Kind) (rule : Rule) (symbols : List Symbol) → choose (rules part) kind ≡ Some rule → rule.move ≡ move.Stay
+pub lighter : (part : Part) (kind : Kind) (rule : Rule) (symbols : List Symbol) → choose (rules part) kind ≡ Some rule
+    → rule.move ≡ move.Stay
     → weigh (rule.symbols ++ symbols) < weigh (symbol.Read part ∷ symbols)
 unfolding weigh kept ahead symbol_cost pays
 lighter part kind rule symbols chosen stay =
     rw (kept_append rule.symbols symbols, ahead_append rule.symbols symbols)
-    (stay_by (is_sure (cost part)) (stops rule.symbols) (skipped (cost part)) (begun (cost part)) (kept rule.symbols) (ahead rule.symbols) (kept symbols)
+    (stay_by (is_sure (cost part)) (stops rule.symbols) (skipped (cost part)) (begun (cost part)) (kept rule.symbols)
+    (ahead rule.symbols) (kept symbols)
     (ahead symbols) (paid part kind rule move.Stay chosen stay))
 
 more_ahead : (sure : Bool) (begin behind : ℕ) → begin ≤ cond sure begin (max begin behind)
@@ -334,13 +345,21 @@ more_ahead true begin behind = omega arith
 more_ahead false begin behind = omega arith
 
 -- a step that takes a token is paid with what the token brings
-pub rule_paid : (part : Part) (kind : Kind) (rule : Rule) (symbols : List Symbol) → choose (rules part) kind ≡ Some rule → rule.move ≡ move.Take
+pub rule_paid : (part : Part) (kind : Kind) (rule : Rule) (symbols : List Symbol) → choose (rules part) kind ≡ Some rule
+    → rule.move ≡ move.Take
     → weigh (rule.symbols ++ symbols) < weigh (symbol.Read part ∷ symbols) + each_token
 unfolding weigh kept ahead symbol_cost pays
 rule_paid part kind rule symbols chosen take =
     let steps : 1 + kept rule.symbols + most_ahead ≤ skipped (cost part) + begun (cost part) + each_token =
     leb-true _ _ (paid part kind rule move.Take chosen take) in
-    omega (arith, steps, kept_append rule.symbols symbols, ahead_most (rule.symbols ++ symbols), more_ahead (is_sure (cost part)) (begun (cost part)) (ahead symbols))
+    omega (
+      arith,
+      steps,
+      kept_append rule.symbols symbols,
+      ahead_most (rule.symbols ++ symbols),
+      more_ahead (is_sure (cost part))
+          (begun (cost part)) (ahead symbols),
+    )
 
 pub take_paid : (t : Terminal) (symbols : List Symbol) → weigh symbols < weigh (symbol.Take t ∷ symbols) + each_token
 unfolding weigh kept ahead symbol_cost is_sure skipped begun

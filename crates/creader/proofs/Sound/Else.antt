@@ -1,5 +1,6 @@
 -- An else belongs to the nearest if: no if without an else stands before an else.
-use Rattle.std.proofs.Common.{◌≡◌, ℕ, zero, suc, Bool, true, false, ◌&&◌, ◌⊎◌, List, [], ◌∷◌, ◌++◌, length, refl, sym, ◌∙◌, ap, subst, inl, inr, append_assoc}
+use Rattle.std.proofs.Common.{◌≡◌, ℕ, zero, suc, Bool, true, false, ◌&&◌, ◌⊎◌, List, [], ◌∷◌, ◌++◌}
+use Rattle.std.proofs.Common.{length, refl, sym, ◌∙◌, ap, subst, inl, inr, append_assoc}
 use Rattle.std.proofs.lemmas.Bool.{false≢true, or_cases, and_parts, false_from_ne_true}
 use Rattle.csyn.specs.declared.keyword.Keyword.TheVariants as keyword
 use Rattle.csyn.specs.declared.token.Token.{Token}
@@ -9,7 +10,8 @@ use Rattle.cgrammar.specs.declared.terminal.Terminal.TheVariants as terminal
 use Rattle.cgrammar.specs.Kind.{kind_of}
 use Rattle.cgrammar.specs.Terminal.{accepts}
 use Rattle.cgrammar.specs.Grammar.{Piece, template}
-use Rattle.cgrammar.specs.Text.{Written, leaf, node, Forest, none, more, spell, spells, is_if_without_else, ends_with_statement, dangles, last_dangles, begins_with_else, IsProper, Match}
+use Rattle.cgrammar.specs.Text.{Written, leaf, node, Forest, none, more, spell, spells, is_if_without_else}
+use Rattle.cgrammar.specs.Text.{ends_with_statement, dangles, last_dangles, begins_with_else, IsProper, Match}
 use Rattle.creader.specs.Machine.{gather, reduce}
 use Rattle.creader.proofs.Sound.Meaning.{IsShaped, Shape}
 
@@ -84,7 +86,8 @@ mutual
   proper (leaf _) behind s c = tt
   proper (node production parts) behind s c = proper-parts (template production) parts behind s c.1
 
-  proper-parts : (pieces : List Piece) (parts : Forest) (behind : List Token) → Shape pieces parts → Clears parts behind → Match pieces parts
+  proper-parts : (pieces : List Piece) (parts : Forest) (behind : List Token) → Shape pieces parts → Clears parts behind
+      → Match pieces parts
   proper-parts [] none behind s c = tt
   proper-parts (piece ∷ pieces) (more written parts) behind s c = (
     s.0,

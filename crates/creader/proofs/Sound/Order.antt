@@ -1,5 +1,6 @@
 -- When what stands at one place may stand at another: computed, and what that gives.
-use Rattle.std.proofs.Common.{◌≡◌, ℕ, ◌+◌, ◌-◌, Bool, true, false, not, ◌||◌, nat_eq, nat_le, if◌then◌else◌, List, [], ◌∷◌, get_or, refl, sym, ◌∙◌, ap, subst, inl, inr, arith}
+use Rattle.std.proofs.Common.{◌≡◌, ℕ, ◌+◌, ◌-◌, Bool, true, false, not, ◌||◌, nat_eq, nat_le, if◌then◌else◌, List}
+use Rattle.std.proofs.Common.{[], ◌∷◌, get_or, refl, sym, ◌∙◌, ap, subst, inl, inr, arith}
 use Rattle.std.proofs.lemmas.Bool.{leb-true, le-leb, eqb-true, eq-eqb, or_cases, or_left, or_right, false≢true, cond-true, not-true}
 use Rattle.cgrammar.specs.declared.kind.Kind.{Kind}
 use Rattle.cgrammar.specs.declared.terminal.Terminal.{Terminal}
@@ -33,7 +34,8 @@ plain_classes = class.callee ∷ class.stars ∷ class.qualified ∷ class.ident
     ∷ class.source ∷ class.nothing ∷ class.some_qualifiers ∷ class.label ∷ class.switch_items ∷ class.more_switch_items ∷ []
 
 words_classes : List Class
-words_classes = class.words every.Sign ∷ class.words every.Char ∷ class.words every.Length ∷ class.words every.Int ∷ class.words every.SignChar
+words_classes = class.words every.Sign ∷ class.words every.Char ∷ class.words every.Length ∷ class.words every.Int
+    ∷ class.words every.SignChar
     ∷ class.words every.SignLength ∷ class.words every.SignInt ∷ class.words every.LengthInt ∷ class.words every.SignLengthInt ∷ []
 
 class_at : ℕ → Class

@@ -17,7 +17,9 @@ use Rattle.creader.specs.declared.part.Symbol.{Symbol}
 use Rattle.creader.specs.declared.part.Symbol.TheVariants as symbol
 use Rattle.cgrammar.specs.Terminal.{accepts, keyword_number, punctuator_number}
 use Rattle.cgrammar.specs.Grammar as class
-use Rattle.cgrammar.specs.Grammar.{Class, Piece, word, sign, under, is_wider, class_number, words_number, operator_level, operator_token, comparison_level, comparison_token, logical_level, logical_token, assignment_token, word_token, alone, before, joined, home, template}
+use Rattle.cgrammar.specs.Grammar.{Class, Piece, word, sign, under, is_wider, class_number, words_number, operator_level}
+use Rattle.cgrammar.specs.Grammar.{operator_token, comparison_level, comparison_token, logical_level, logical_token}
+use Rattle.cgrammar.specs.Grammar.{assignment_token, word_token, alone, before, joined, home, template}
 use Rattle.creader.specs.Rules.{Rule, rules, chain_rules, chain_tail_rules, words_rules}
 use Rattle.creader.proofs.Sound.Kinds.{keywords, punctuators, plain_kinds, every_kind}
 use Rattle.creader.proofs.Sound.Order.{covered, below}
@@ -59,7 +61,8 @@ entry part.AfterVoid = word keyword.Void ∷ []
 entry part.ParameterTail = class.part class.stars ∷ class.part class.«type» ∷ []
 entry part.ParameterAfterStar = sign punctuator.Star ∷ class.part class.stars ∷ class.part class.«type» ∷ []
 entry part.ParameterEnd = class.part class.identifier ∷ class.part class.stars ∷ class.part class.«type» ∷ []
-entry part.ParameterLength = sign punctuator.LeftBracket ∷ class.part class.identifier ∷ class.part class.stars ∷ class.part class.«type» ∷ []
+entry part.ParameterLength = sign punctuator.LeftBracket ∷ class.part class.identifier ∷ class.part class.stars
+    ∷ class.part class.«type» ∷ []
 entry _ = []
 
 -- of which class is what stands there afterwards
@@ -165,7 +168,10 @@ rule_keeps p rule = move_keeps p rule.move rule.on rule.symbols
 
 -- all rules of a part do, which computes
 unfoldable pub keeps : Part → Bool
-unfolding rules chain_rules chain_tail_rules words_rules accepts keyword_number punctuator_number under is_wider class_number words_number operator_level operator_token comparison_level comparison_token logical_level logical_token assignment_token word_token alone before joined home template keywords punctuators plain_kinds every_kind covered below chain_level entry exit strip turned types move_keeps
+unfolding rules chain_rules chain_tail_rules words_rules accepts keyword_number punctuator_number under is_wider class_number
+    words_number operator_level operator_token comparison_level comparison_token logical_level logical_token assignment_token
+    word_token alone before joined home template keywords punctuators plain_kinds every_kind covered below chain_level entry exit
+    strip turned types move_keeps
 keeps p = list_all (rule_keeps p) (rules p)
 
 pub each-keeps : (p : Part) → keeps p ≡ true

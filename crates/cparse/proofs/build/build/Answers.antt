@@ -40,7 +40,8 @@ pub returns-then-not-branch : goal.returns-then-not-branch
 returns-then-not-branch c = λ written value text all has.
     let e = get_or c.args.entries.now c.loop-entry.entry-index none in
     let stuck : specs.build_one c.args.tokens.now (built_of c.loop-entry.builder) e ≡ None =
-    subst (λ b. Steps c.args.tokens.now e b (built_of c.loop-entry.builder) (built_of c.step.new.self)) c.if-not-branch.true c.in_ok-step.ensures in
+    subst (λ b. Steps c.args.tokens.now e b (built_of c.loop-entry.builder) (built_of c.step.new.self)) c.if-not-branch.true
+    c.in_ok-step.ensures in
     absurd (turns.never-stuck c.args.tokens.now c.args.entries.now c.loop-entry.entry-index e (built_of c.loop-entry.builder) written value
     (turns.same-at c.args.entries.now c.loop-entry.entry-index none e c.loop-entry-test.true) c.loop-entry-test.true
     stuck c.loop-entry.invariant.same text all has)
@@ -50,7 +51,8 @@ returns c = λ written value text all has.
     let last = turns.at-end c.args.tokens.now c.args.entries.now c.loop-entry.entry-index (built_of c.loop-entry.builder) written value
     c.loop-entry-test.false c.loop-entry.invariant.same text all has in
     let values : bare_values c.loop-entry.builder.values ≡ value ∷ [] = ap (λ (b : specs.Built). b.values) last in (
-      turns.popped c.loop-entry.builder.values c.pop_front-value.new.self c.pop_front-value.result value values c.pop_front-value.ensures.items
+      turns.popped c.loop-entry.builder.values c.pop_front-value.new.self c.pop_front-value.result value values
+          c.pop_front-value.ensures.items
           c.pop_front-value.ensures.cases,
       ap (λ (b : specs.Built). b.nodes) last,
     )

@@ -28,7 +28,8 @@ use Rattle.cparse.proofs.Deepest.{deep-within}
 use Rattle.cparse.proofs.parser.parse.Goals as goal
 
 -- a token that can't stand
-refused-is : (c : goal.After-result-in-Err-Token-1) → c.index-tokens-place.result ≡ get_or c.args.tokens.now c.in-Err-Token.place c.index-tokens-place.result
+refused-is : (c : goal.After-result-in-Err-Token-1) → c.index-tokens-place.result
+    ≡ get_or c.args.tokens.now c.in-Err-Token.place c.index-tokens-place.result
 refused-is c = c.index-tokens-place.is ∙ ap (λ n. get_or c.args.tokens.now n c.index-tokens-place.result) c.in-Err-Token.place-is
 
 refused-first : (c : goal.After-result-in-Err-Token-1) → IsFirstFault c.args.tokens.now c.in-Err-Token.place
@@ -52,20 +53,23 @@ returns-in-Err-Token-clause-named c =
 pub bounds-tokens-place-in-Some : goal.bounds-tokens-place-in-Some
 bounds-tokens-place-in-Some c =
     let source = c.in-Ok.ensures.entries in
-    answered.deep-place c.args.tokens.now source.0 c.in-Ok.entries.items c.deref.result.now c.in_ok-place.field-0 c.in-Some.place source.1 source.2
+    answered.deep-place c.args.tokens.now source.0 c.in-Ok.entries.items c.deref.result.now c.in_ok-place.field-0 c.in-Some.place
+    source.1 source.2
     c.deref.ensures.value c.in_ok-place.ensures c.in-Some.is
 
 pub bounds-tokens-place-in-Some-2 : goal.bounds-tokens-place-in-Some-2
 bounds-tokens-place-in-Some-2 c =
     let source = c.in-Ok.ensures.entries in
-    answered.deep-place c.args.tokens.now source.0 c.in-Ok.entries.items c.deref.result.now c.in_ok-place.field-0 c.in-Some.place source.1 source.2
+    answered.deep-place c.args.tokens.now source.0 c.in-Ok.entries.items c.deref.result.now c.in_ok-place.field-0 c.in-Some.place
+    source.1 source.2
     c.deref.ensures.value c.in_ok-place.ensures c.in-Some.is
 
 pub offset_bounds-tokens-place-in-Some : goal.offset_bounds-tokens-place-in-Some
 offset_bounds-tokens-place-in-Some c =
     let source = c.in-Ok.ensures.entries in
     let within : c.in-Some.place < length c.args.tokens.now =
-    answered.deep-place c.args.tokens.now source.0 c.in-Ok.entries.items c.deref.result.now c.in_ok-place.field-0 c.in-Some.place source.1 source.2
+    answered.deep-place c.args.tokens.now source.0 c.in-Ok.entries.items c.deref.result.now c.in_ok-place.field-0 c.in-Some.place
+    source.1 source.2
     c.deref.ensures.value c.in_ok-place.ensures c.in-Some.is in
     omega (arith, within, c.requires.few)
 
@@ -90,7 +94,8 @@ module _ (c : goal.After-drop-entries-in-Some) where
 pub returns-in-Some-clause-broken : goal.returns-in-Some-clause-broken
 returns-in-Some-clause-broken c =
     subst (λ (t : Token). IsFault c.args.tokens.now t.span G3) c.index-tokens-place-in-Some.is
-    (answered.deep-fault c.args.tokens.now (written c) c.in-Ok.ensures.entries.1 (only c) c.in-Some.place c.index-tokens-place-in-Some.result
+    (answered.deep-fault c.args.tokens.now (written c) c.in-Ok.ensures.entries.1 (only c) c.in-Some.place
+    c.index-tokens-place-in-Some.result
     (found c) (within c) c.index-tokens-place-in-Some.is)
 
 pub returns-in-Some-clause-read : goal.returns-in-Some-clause-read
@@ -100,8 +105,10 @@ returns-in-Some-clause-read c =
 
 pub returns-in-Some-clause-named : goal.returns-in-Some-clause-named
 returns-in-Some-clause-named c =
-    subst (λ (t : Token). (span : Span) (cause : Cause) → IsFault c.args.tokens.now span cause → (t.span ≡ span) × (G3 ≡ cause)) c.index-tokens-place-in-Some.is
-    (answered.deep-others c.args.tokens.now (written c) c.in-Ok.ensures.entries.1 (only c) c.in-Some.place c.index-tokens-place-in-Some.result
+    subst (λ (t : Token). (span : Span) (cause : Cause) → IsFault c.args.tokens.now span cause → (t.span ≡ span) × (G3 ≡ cause))
+    c.index-tokens-place-in-Some.is
+    (answered.deep-others c.args.tokens.now (written c) c.in-Ok.ensures.entries.1 (only c) c.in-Some.place
+    c.index-tokens-place-in-Some.result
     (found c) (within c) c.index-tokens-place-in-Some.is)
 
 -- the tree that is made has few enough levels
@@ -113,7 +120,8 @@ few-levels c =
     answered.deep-found (source.0) c.args.tokens.now c.in-Ok.entries.items c.deref.result.now c.in_ok-place.field-0 (source.1) (source.2)
     c.deref.ensures.value c.in_ok-place.ensures ∙ c.in_default.is in
     let makes = c.in_ok-value.ensures (source.0) (Value.Units (bare.0)) (source.1) (c.deref-2.ensures.value ∙ source.2) (bare.1) in
-    let same : bare_units c.units_of.result ≡ bare.0 = answered.units-by c.in_ok-value.value c.units_of.result (bare.0) (makes.0) c.units_of.ensures in
+    let same : bare_units c.units_of.result ≡ bare.0 = answered.units-by c.in_ok-value.value c.units_of.result (bare.0) (makes.0)
+    c.units_of.ensures in
     let count : units_levels (bare.0) ≤ 256 = few.shallow (source.0) (bare.0) (none-is-deep (source.0) shallow) (bare.1) in
     omega (arith, count, ap units_levels same, units-bare c.units_of.result)
 
@@ -132,7 +140,8 @@ module _ (c : goal.After-drop-entries-2) where
   bare = source-units (source.0) (source.1).is_source (source.1).proper
 
   shallow : slice_get (deep 0 0 (source.0)) 0 ≡ None
-  shallow = answered.deep-found (source.0) c.args.tokens.now c.in-Ok.entries.items c.deref.result.now c.in_ok-place.field-0 (source.1) (source.2)
+  shallow = answered.deep-found (source.0) c.args.tokens.now c.in-Ok.entries.items c.deref.result.now c.in_ok-place.field-0
+      (source.1) (source.2)
       c.deref.ensures.value c.in_ok-place.ensures ∙ c.in_default.is
 
   makes : (option_map bare_value c.in_ok-value.value ≡ Some (Value.Units (bare.0))) × (c.in_ok-value.nodes ≡ nodes (source.0))
@@ -145,7 +154,9 @@ module _ (c : goal.After-drop-entries-2) where
     end = (get_or c.args.tokens.now (length c.args.tokens.now - 1) c.index-tokens-last.result).span;
   } → Yields t c.args.tokens.now
   yields t e =
-      answered.yields-tree c.args.tokens.now (source.0) (source.1) (λ other text. c.one_text.ensures c.args.tokens.now other (source.0) text (source.1)) c.in_ok-value.value c.in_ok-value.nodes (length c.args.tokens.now - 1)
+      answered.yields-tree c.args.tokens.now (source.0) (source.1)
+      (λ other text. c.one_text.ensures c.args.tokens.now other (source.0) text (source.1)) c.in_ok-value.value
+      c.in_ok-value.nodes (length c.args.tokens.now - 1)
       c.index-tokens-last.result c.units_of.result (bare.0) shallow (bare.1) (makes.0) (makes.1) c.units_of.ensures
       (answered.several c.args.tokens.now c.requires.ends) c.index-tokens-last.is t
       (ap (λ (x : Contents). x.units) e) (ap (λ (x : Contents). x.tokens) e) (ap (λ (x : Contents). x.nodes) e)

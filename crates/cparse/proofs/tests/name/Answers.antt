@@ -5,7 +5,8 @@ use Rattle.cgrammar.specs.Kind.{name_kind}
 use Rattle.cparse.proofs.tests.name.Goals as goal
 
 -- none of the three kinds of a name is the end's
-no-end : (is_register is_location : Bool) → (if is_register then kind.RegisterName else (if is_location then kind.LocationName else kind.Name)) ≡ kind.End → ⊥
+no-end : (is_register is_location : Bool) → (if is_register then kind.RegisterName else
+    (if is_location then kind.LocationName else kind.Name)) ≡ kind.End → ⊥
 no-end true _ e = cc
 no-end false true e = cc
 no-end false false e = cc

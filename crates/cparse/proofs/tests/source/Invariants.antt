@@ -5,4 +5,8 @@ use Rattle.cparse.proofs.tests.source.Given as goal
 
 -- a token for each word so far, and none of them is the end's; the column is the number of the next
 abbrev pub invariant-loop-word : goal.invariant-loop-word
-invariant-loop-word l = record { count : length l.tokens.items ≡ l.word-index; column : l.span.column ≡ l.word-index + 1; none : All (λ token. kind_of token ≢ kind.End) l.tokens.items }
+invariant-loop-word l = record {
+  count : length l.tokens.items ≡ l.word-index;
+  column : l.span.column ≡ l.word-index + 1;
+  none : All (λ token. kind_of token ≢ kind.End) l.tokens.items;
+}

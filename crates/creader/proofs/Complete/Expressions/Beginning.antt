@@ -1,5 +1,6 @@
 -- Expressions of levels 14 and 15 that begin with a token of their own, behind which the rule has the right side as it stands.
-use Rattle.std.proofs.Common.{◌≡◌, Bool, true, false, not, ◌&&◌, nat_le, List, [], ◌∷◌, ◌++◌, map, refl, sym, subst, true≢false, append_assoc}
+use Rattle.std.proofs.Common.{◌≡◌, Bool, true, false, not, ◌&&◌, nat_le, List, [], ◌∷◌, ◌++◌, map}
+use Rattle.std.proofs.Common.{refl, sym, subst, true≢false, append_assoc}
 use Rattle.std.proofs.lemmas.Bool.{and_parts, and_from}
 use Rattle.cgrammar.specs.declared.production.Production.{Production}
 use Rattle.cgrammar.specs.declared.production.Production.TheVariants as make
@@ -18,7 +19,9 @@ use Rattle.creader.proofs.Complete.Kinds.{each, every_kind, at-kind, kinds}
 use Rattle.creader.proofs.Complete.Steps.{join, reduce-step, push, reduce-push}
 use Rattle.creader.proofs.Complete.Firsts.{begins-as, may_begin, firsts, nullable, forest-begins}
 use Rattle.creader.proofs.Complete.Sequence.{readers, fits, ends_open, before_end, sequence-reads}
-use Rattle.creader.proofs.Complete.Heads.{may_end, Heads, AllKnown, is_expression, is_bare_name, is_name_node, level_of, levels_of, postfix_numbers, tail_of, tail_symbol, inner, symbols_of, barred, barred_of, starts_expression}
+use Rattle.creader.proofs.Complete.Heads.{may_end, Heads, AllKnown, is_expression, is_bare_name, is_name_node, level_of, levels_of}
+use Rattle.creader.proofs.Complete.Heads.{postfix_numbers, tail_of, tail_symbol, inner, symbols_of, barred, barred_of}
+use Rattle.creader.proofs.Complete.Heads.{starts_expression}
 use Rattle.creader.proofs.Complete.Expressions.Tables.{when, when-at}
 use Rattle.creader.proofs.Complete.Productions.{production_number, operator_number, comparison_number, logical_number}
 use Rattle.creader.proofs.Complete.Expressions.Symbols.{same, same_symbol, symbol_number, same-path}
@@ -41,7 +44,8 @@ no_end : (b : Bool) → not b ≡ true → b ≡ true → ⊥
 no_end true h e = true≢false (sym h)
 no_end false h e = true≢false (sym e)
 
-module _ (p : Production) (first : Terminal) (others : List Piece) (expression : is_expression p ≡ true) (holds : starts p first others ≡ true) where
+module _ (p : Production) (first : Terminal) (others : List Piece) (expression : is_expression p ≡ true)
+    (holds : starts p first others ≡ true) where
   by_parts : (f : Forest) → Match (template p) f → Match (class.token first ∷ others) f → AllKnown f → Heads (node p f)
   unfolding Match IsProper AllKnown starts behind_symbols tail_of levels_of is_name_node barred_of push
   by_parts none m m' known = absurd m'
@@ -59,7 +63,8 @@ module _ (p : Production) (first : Terminal) (others : List Piece) (expression :
         spelled = refl;
         inside = λ o t tokens.
             let test = when-at (accepts first (kind_of x) && is_open (kind_of x)) _ (at-kind _ b.0 (kind_of x)) (and_from _ _ m'.0 o) in
-            begins-as (may_begin others (λ _. true)) starts_expression (spells f ++ t ∷ tokens) (λ l h. when-at (may_begin others (λ _. true) l) _
+            begins-as (may_begin others (λ _. true)) starts_expression (spells f ++ t ∷ tokens)
+            (λ l h. when-at (may_begin others (λ _. true) l) _
             (at-kind _ test l) h)
             (forest-begins f others m'.3 (λ _. true) (t ∷ tokens) refl);
         reads = λ symbols values t tokens e.
@@ -90,10 +95,13 @@ other_pieces [] = []
 other_pieces (_ ∷ pieces) = pieces
 
 beginning-holds : (p : Production) → is_beginning p ≡ true → starts p (first_terminal (template p)) (other_pieces (template p)) ≡ true
-unfolding is_beginning starts behind_symbols template first_terminal other_pieces every_kind each kinds when starts_expression firsts nullable
+unfolding is_beginning starts behind_symbols template first_terminal other_pieces every_kind each kinds when starts_expression
+    firsts nullable
     may_begin any_accepts
-    accepts keyword_number punctuator_number choose rules inner symbols_of tail_symbol postfix_numbers is_bare_name same same_symbol symbol_number
-    production_number operator_number comparison_number logical_number readers fits ends_open before_end reader level_reader has_reader follow allows is_statement extenders
+    accepts keyword_number punctuator_number choose rules inner symbols_of tail_symbol postfix_numbers is_bare_name same same_symbol
+    symbol_number
+    production_number operator_number comparison_number logical_number readers fits ends_open before_end reader level_reader
+    has_reader follow allows is_statement extenders
     operators_from barred level_of home
 beginning-holds make.Number h = refl
 beginning-holds make.Character h = refl
@@ -103,7 +111,8 @@ beginning-holds make.PreDecrement h = refl
 beginning-holds make.Prefix h = refl
 beginning-holds _ h = absurd (true≢false (sym h))
 
-beginning-template : (p : Production) → is_beginning p ≡ true → template p ≡ class.token (first_terminal (template p)) ∷ other_pieces (template p)
+beginning-template : (p : Production) → is_beginning p ≡ true
+    → template p ≡ class.token (first_terminal (template p)) ∷ other_pieces (template p)
 unfolding is_beginning template first_terminal other_pieces
 beginning-template make.Number h = refl
 beginning-template make.Character h = refl

@@ -1,5 +1,6 @@
 -- Expressions of levels 14 and 15, read from behind their first token: from whatever symbols take that token as a unary expression does.
-use Rattle.std.proofs.Common.{◌≡◌, ℕ, ◌≤◌, Bool, true, false, not, ◌&&◌, ◌||◌, ◌⊎◌, if◌then◌else◌, nat_le, nat_eq, List, [], ◌∷◌, ◌++◌, map, refl, ◌∙◌, subst, ap, inl, inr, arith, append_assoc}
+use Rattle.std.proofs.Common.{◌≡◌, ℕ, ◌≤◌, Bool, true, false, not, ◌&&◌, ◌||◌, ◌⊎◌, if◌then◌else◌, nat_le, nat_eq, List, []}
+use Rattle.std.proofs.Common.{◌∷◌, ◌++◌, map, refl, ◌∙◌, subst, ap, inl, inr, arith, append_assoc}
 use Rattle.std.proofs.lemmas.List.{map-append}
 use Rattle.std.proofs.lemmas.Bool.{and_parts, leb-true, not_from_false}
 use Rattle.csyn.specs.declared.token.Token.{Token}
@@ -21,11 +22,14 @@ use Rattle.creader.proofs.Complete.Reading.{level_reader, chain_of, chain_part}
 use Rattle.creader.proofs.Complete.Kinds.{each, every_kind, at-kind, kinds}
 use Rattle.creader.proofs.Complete.Steps.{join}
 use Rattle.creader.proofs.Complete.Firsts.{Begins, begins-as, firsts, nullable, written-begins, sign}
-use Rattle.creader.proofs.Complete.Heads.{Heads, Behind, Ends, is_expression, is_bare_name, is_name_node, level_of, levels_of, left, left_numbers, postfix_numbers, after_numbers, chain_numbers, tail_of, tail_symbol, inner, symbols_of, starts_expression}
+use Rattle.creader.proofs.Complete.Heads.{Heads, Behind, Ends, is_expression, is_bare_name, is_name_node, level_of, levels_of, left}
+use Rattle.creader.proofs.Complete.Heads.{left_numbers, postfix_numbers, after_numbers, chain_numbers, tail_of, tail_symbol, inner}
+use Rattle.creader.proofs.Complete.Heads.{symbols_of, starts_expression}
 use Rattle.creader.proofs.Complete.Expressions.Tables.{when, when-at, every_below, below-at, level_zero}
 use Rattle.creader.proofs.Complete.Productions.{production_number, operator_number, comparison_number, logical_number}
 use Rattle.creader.proofs.Complete.Expressions.Symbols.{same, same_symbol, symbol_number, same-path}
-use Rattle.creader.proofs.Complete.Expressions.Stays.{takes, takes_now, taken, taken_by, settle, once, stayed, stayed_by, takes-reaches, settle-reaches}
+use Rattle.creader.proofs.Complete.Expressions.Stays.{takes, takes_now, taken, taken_by, settle, once, stayed}
+use Rattle.creader.proofs.Complete.Expressions.Stays.{stayed_by, takes-reaches, settle-reaches}
 use Rattle.creader.proofs.Complete.Expressions.Tails.{expression-level}
 
 abbrev pub is_open : Kind → Bool
@@ -40,7 +44,8 @@ enters start opened steps after = every_kind (λ k. when (starts_expression k) (
     (inner k ++ after))))))
 
 -- before whatever token that passes a test the symbols become these
-pub opened-goes : (test : Kind → Bool) (opened found : List Symbol) (steps : ℕ) (symbols : List Symbol) (values : List Written) (tokens : List Token)
+pub opened-goes : (test : Kind → Bool) (opened found : List Symbol) (steps : ℕ) (symbols : List Symbol) (values : List Written)
+    (tokens : List Token)
     → every_kind (λ l. when (test l) (λ _. same (settle steps opened l) found)) ≡ true → Begins test tokens
     → Reaches (at (opened ++ symbols) values tokens) (at (found ++ symbols) values tokens)
 opened-goes test opened found steps symbols values [] h b = absurd b
@@ -72,7 +77,8 @@ enter w start opened steps after h b s symbols values t tokens e =
         let two = and_parts _ _ (when-at _ _ h' o) in
         rw (← append_assoc (inner (kind_of b.first)))
         (join (takes-reaches start opened symbols values b.first (b.rest ++ t ∷ tokens) two.0)
-        (opened-goes starts_expression opened (inner (kind_of b.first) ++ after) steps symbols (leaf b.first ∷ values) (b.rest ++ t ∷ tokens) two.1
+        (opened-goes starts_expression opened (inner (kind_of b.first) ++ after) steps symbols (leaf b.first ∷ values)
+        (b.rest ++ t ∷ tokens) two.1
         (b.inside o t tokens)))
 
 -- how the reader of a level takes a parenthesis, and what stands behind the unary expression
@@ -88,10 +94,13 @@ unfoldable levels_enter : Bool
 levels_enter = every_below 15 (λ n. enters (level_reader n) (opened_at n) (steps_at n) (map tail_symbol (after_numbers n 14)))
 
 levels-enter : levels_enter ≡ true
-unfolding levels_enter every_below enters every_kind each kinds when starts_expression firsts any_accepts accepts keyword_number punctuator_number
-    takes takes_now taken taken_by settle once stayed stayed_by choose rules chain_rules chain_tail_rules level_reader chain_of chain_part opened_at
+unfolding levels_enter every_below enters every_kind each kinds when starts_expression firsts any_accepts accepts keyword_number
+    punctuator_number
+    takes takes_now taken taken_by settle once stayed stayed_by choose rules chain_rules chain_tail_rules level_reader chain_of
+    chain_part opened_at
     steps_at
-    tail_symbol after_numbers chain_numbers inner symbols_of same same_symbol symbol_number production_number operator_number comparison_number logical_number
+    tail_symbol after_numbers chain_numbers inner symbols_of same same_symbol symbol_number production_number operator_number
+    comparison_number logical_number
 levels-enter = refl
 
 -- what is left does not tell levels 14 and 15 apart, but for the tail of level 15

@@ -10,14 +10,17 @@ use Rattle.cgrammar.specs.declared.terminal.Terminal.{Terminal}
 use Rattle.cgrammar.specs.Terminal.{accepts, keyword_number, punctuator_number}
 use Rattle.creader.specs.Rules.{rules, chain_rules, chain_tail_rules, choose, any_accepts}
 use Rattle.cgrammar.specs.Grammar as class
-use Rattle.cgrammar.specs.Grammar.{Piece, sign, template, home, operator_level, operator_token, comparison_level, comparison_token, logical_level, logical_token, assignment_token}
+use Rattle.cgrammar.specs.Grammar.{Piece, sign, template, home, operator_level, operator_token, comparison_level}
+use Rattle.cgrammar.specs.Grammar.{comparison_token, logical_level, logical_token, assignment_token}
 use Rattle.cgrammar.specs.Text.{Forest, node, Match}
-use Rattle.creader.proofs.Complete.Reading.{reader, level_reader, chain_of, chain_part, has_reader, follow, allows, is_statement, extenders, operators_from}
+use Rattle.creader.proofs.Complete.Reading.{reader, level_reader, chain_of, chain_part, has_reader, follow}
+use Rattle.creader.proofs.Complete.Reading.{allows, is_statement, extenders, operators_from}
 use Rattle.creader.proofs.Complete.Kinds.{each, every_kind, kinds}
 use Rattle.creader.proofs.Complete.Firsts.{may_begin, firsts, nullable}
 use Rattle.creader.proofs.Complete.Firsts.{sign as mark}
 use Rattle.creader.proofs.Complete.Sequence.{readers, fits, ends_open, before_end}
-use Rattle.creader.proofs.Complete.Heads.{Heads, AllKnown, is_expression, is_level, is_bare_name, level_of, left_numbers, postfix_numbers, after_numbers, chain_numbers, tail_symbol, barred}
+use Rattle.creader.proofs.Complete.Heads.{Heads, AllKnown, is_expression, is_level, is_bare_name, level_of, left_numbers}
+use Rattle.creader.proofs.Complete.Heads.{postfix_numbers, after_numbers, chain_numbers, tail_symbol, barred}
 use Rattle.creader.proofs.Complete.Expressions.Tables.{when, when-at, every_below, every_expression}
 use Rattle.creader.proofs.Complete.Productions.{production_number, operator_number, comparison_number, logical_number}
 use Rattle.creader.proofs.Complete.Expressions.Symbols.{same, same_symbol, symbol_number}
@@ -67,9 +70,11 @@ growing-holds : (p : Production) → is_growing p ≡ true → growing_holds p �
 unfolding is_growing growing_holds shape_of grows token_grows goes_on wanted suits when every_below each every_kind kinds every_expression
     is_expression is_level is_bare_name home level_of barred extenders operators_from operator_level operator_token
     comparison_level comparison_token logical_level logical_token assignment_token
-    any_accepts accepts keyword_number punctuator_number takes takes_now taken taken_by settle once stayed stayed_by choose rules chain_rules
+    any_accepts accepts keyword_number punctuator_number takes takes_now taken taken_by settle once stayed stayed_by choose rules
+    chain_rules
     chain_tail_rules tail_symbol left_numbers postfix_numbers after_numbers chain_numbers same same_symbol symbol_number production_number
-    operator_number comparison_number logical_number readers fits ends_open before_end reader level_reader chain_of chain_part has_reader follow allows is_statement may_begin firsts
+    operator_number comparison_number logical_number readers fits ends_open before_end reader level_reader chain_of chain_part
+    has_reader follow allows is_statement may_begin firsts
     nullable
 growing-holds make.Index h = refl
 growing-holds make.Call h = refl

@@ -1,5 +1,6 @@
 -- Expressions that begin with an expression: their first part is read by itself, and what it has left goes on with the token behind it.
-use Rattle.std.proofs.Common.{◌≡◌, ℕ, Bool, true, false, not, ◌&&◌, ◌||◌, ◌⊎◌, if◌then◌else◌, nat_le, nat_eq, List, ◌∷◌, ◌++◌, map, refl, sym, ◌∙◌, subst, ap, inl, inr, true≢false, arith, append_assoc, append-nil}
+use Rattle.std.proofs.Common.{◌≡◌, ℕ, Bool, true, false, not, ◌&&◌, ◌||◌, ◌⊎◌, if◌then◌else◌, nat_le, nat_eq, List, ◌∷◌, ◌++◌, map}
+use Rattle.std.proofs.Common.{refl, sym, ◌∙◌, subst, ap, inl, inr, true≢false, arith, append_assoc, append-nil}
 use Rattle.std.proofs.lemmas.Bool.{and_parts, and_from, le-leb, leb-true, eqb-true}
 use Rattle.csyn.specs.declared.token.Token.{Token}
 use Rattle.cgrammar.specs.declared.kind.Kind.{Kind}
@@ -19,7 +20,9 @@ use Rattle.creader.proofs.Complete.Kinds.{every_kind, at-kind}
 use Rattle.creader.proofs.Complete.Classes.{under-ways}
 use Rattle.creader.proofs.Complete.Steps.{join, reduce-step, push, reduce-push}
 use Rattle.creader.proofs.Complete.Sequence.{readers, fits, ends_open, sequence-reads}
-use Rattle.creader.proofs.Complete.Heads.{may_end, Heads, AllKnown, is_expression, is_level, is_bare_name, is_name_node, level_of, levels_of, left, left_numbers, postfix_numbers, after_numbers, chain_numbers, tail_of, tail_symbol, barred, barred_of}
+use Rattle.creader.proofs.Complete.Heads.{may_end, Heads, AllKnown, is_expression, is_level, is_bare_name, is_name_node, level_of}
+use Rattle.creader.proofs.Complete.Heads.{levels_of, left, left_numbers, postfix_numbers, after_numbers, chain_numbers, tail_of}
+use Rattle.creader.proofs.Complete.Heads.{tail_symbol, barred, barred_of}
 use Rattle.creader.proofs.Complete.KnownReads.{known-heads, under-level, level-under}
 use Rattle.creader.proofs.Complete.Expressions.Tables.{when, when-at, every_below, below-at, every_expression, at-expression}
 use Rattle.creader.proofs.Complete.Expressions.Stays.{takes, takes-reaches}
@@ -142,7 +145,8 @@ module _ (p : Production) (shape : Shape) (expression : is_expression p ≡ true
       let here = when-at (is_expression q) _ (at-expression _ (and_parts _ _ (at_token k a)).1 q s.expression) s.expression in
       when-at (suits shape (level_of (home q)) (is_bare_name q)) _ here s.suits_it
 
-  first_goes : (q : Production) → Suits shape q → (k : Kind) → accepts shape.operator k ≡ true → (n : ℕ) → nat_le n (level_of (home p)) ≡ true
+  first_goes : (q : Production) → Suits shape q → (k : Kind) → accepts shape.operator k ≡ true → (n : ℕ)
+      → nat_le n (level_of (home p)) ≡ true
       → goes_on p shape (level_of (home q)) (is_bare_name q) n k ≡ true
   unfolding token_grows
   first_goes q s k a n l =
@@ -164,7 +168,8 @@ module _ (p : Production) (shape : Shape) (expression : is_expression p ≡ true
       → (n : ℕ) → nat_le n (level_of (home p)) ≡ true
       → (symbols : List Symbol) (values : List Written) (t : Token) (tokens : List Token) → not (any_accepts (barred p) (kind_of t)) ≡ true
       → Reaches (at (left n (node q g) ++ symbols) (node q g ∷ values) (x ∷ (spells f ++ t ∷ tokens)))
-      (at (left n (node p (more (node q g) (more (leaf x) f))) ++ symbols) (node p (more (node q g) (more (leaf x) f)) ∷ values) (t ∷ tokens))
+      (at (left n (node p (more (node q g) (more (leaf x) f))) ++ symbols) (node p (more (node q g) (more (leaf x) f)) ∷ values)
+      (t ∷ tokens))
   unfolding left levels_of is_name_node goes_on wanted push
   goes q g x f s a m others known n l symbols values t tokens e =
       let whole = more (node q g) (more (leaf x) f) in
@@ -196,7 +201,8 @@ module _ (p : Production) (shape : Shape) (expression : is_expression p ≡ true
       let d = expression-level q s.expression in
       (a, omega arith)
 
-  by_parts : (f : Forest) → Match (template p) f → Match (class.part (first_class shape) ∷ class.token shape.operator ∷ shape.others) f → AllKnown f
+  by_parts : (f : Forest) → Match (template p) f → Match (class.part (first_class shape) ∷ class.token shape.operator
+      ∷ shape.others) f → AllKnown f
       → Heads (node p f)
   unfolding Match IsProper AllKnown levels_of barred_of
   by_parts none m m' known = absurd m'

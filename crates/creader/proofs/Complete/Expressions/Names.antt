@@ -12,7 +12,8 @@ use Rattle.cgrammar.specs.Kind.{kind_of}
 use Rattle.cgrammar.specs.Terminal.{accepts, keyword_number, punctuator_number}
 use Rattle.creader.specs.Rules.{rules, choose, any_accepts}
 use Rattle.cgrammar.specs.Grammar as class
-use Rattle.cgrammar.specs.Grammar.{Piece, sign, template, home, under, is_wider, class_number, words_number, operator_level, comparison_level, logical_level, alone, joined}
+use Rattle.cgrammar.specs.Grammar.{Piece, sign, template, home, under, is_wider, class_number, words_number}
+use Rattle.cgrammar.specs.Grammar.{operator_level, comparison_level, logical_level, alone, joined}
 use Rattle.cgrammar.specs.Text.{Written, leaf, node, Forest, none, more, spells, Match, IsProper, dangles}
 use Rattle.creader.specs.Machine.{at, Reaches}
 use Rattle.creader.proofs.Complete.Reading.{reader, has_reader, follow, allows, is_statement}
@@ -21,11 +22,14 @@ use Rattle.creader.proofs.Complete.Steps.{join, reduce-step, push, reduce-push}
 use Rattle.creader.proofs.Complete.Productions.{productions, kept, makers, In, in-makers}
 use Rattle.creader.proofs.Complete.Firsts.{may_begin, firsts, nullable}
 use Rattle.creader.proofs.Complete.Sequence.{readers, fits, ends_open, before_end, sequence-reads}
-use Rattle.creader.proofs.Complete.Heads.{may_end, Heads, Behind, AllKnown, is_expression, is_level, is_bare_name, is_name_node, level_of, levels_of, postfix_numbers, tail_of, tail_symbol, inner, symbols_of, barred, barred_of}
+use Rattle.creader.proofs.Complete.Heads.{may_end, Heads, Behind, AllKnown, is_expression, is_level, is_bare_name, is_name_node}
+use Rattle.creader.proofs.Complete.Heads.{level_of, levels_of, postfix_numbers, tail_of, tail_symbol, inner, symbols_of, barred}
+use Rattle.creader.proofs.Complete.Heads.{barred_of}
 use Rattle.creader.proofs.Complete.Expressions.Tables.{when, when-at}
 use Rattle.creader.proofs.Complete.Productions.{production_number, operator_number, comparison_number, logical_number}
 use Rattle.creader.proofs.Complete.Expressions.Symbols.{same, same_symbol, symbol_number, same-path}
-use Rattle.creader.proofs.Complete.Expressions.Stays.{settles, settles-reaches, takes, takes-reaches, takes_now, taken, taken_by, settle, once, stayed, stayed_by}
+use Rattle.creader.proofs.Complete.Expressions.Stays.{settles, settles-reaches, takes, takes-reaches, takes_now, taken}
+use Rattle.creader.proofs.Complete.Expressions.Stays.{taken_by, settle, once, stayed, stayed_by}
 use Rattle.creader.proofs.Complete.Expressions.Entering.{is_open, behind-heads}
 
 identifier-list : makers class.identifier ≡ make.Identifier ∷ []
@@ -57,10 +61,12 @@ is_identifier p f u m =
 
 -- what is behind a name, computed
 unfoldable name_inner : Bool
-name_inner = every_kind (λ k. when (accepts terminal.Name k) (λ _. same (inner k) (symbol.Reduce make.Identifier ∷ symbol.Read part.AfterName ∷ [])))
+name_inner = every_kind (λ k. when (accepts terminal.Name k)
+    (λ _. same (inner k) (symbol.Reduce make.Identifier ∷ symbol.Read part.AfterName ∷ [])))
 
 name-inner : name_inner ≡ true
-unfolding name_inner every_kind each kinds when accepts keyword_number punctuator_number any_accepts inner symbols_of choose rules same same_symbol
+unfolding name_inner every_kind each kinds when accepts keyword_number punctuator_number any_accepts inner symbols_of choose rules
+    same same_symbol
     symbol_number
     production_number operator_number comparison_number logical_number
 name-inner = refl
@@ -77,7 +83,8 @@ name_alone = every_kind (λ k. when (may_end make.Name k) (λ _. settles (symbol
     (symbol.Reduce make.Name ∷ symbol.Read part.NameTail ∷ [])))
 
 name-alone : name_alone ≡ true
-unfolding name_alone every_kind each kinds when accepts keyword_number punctuator_number any_accepts barred settles settle once stayed stayed_by
+unfolding name_alone every_kind each kinds when accepts keyword_number punctuator_number any_accepts barred settles settle once
+    stayed stayed_by
     choose rules same
     same_symbol symbol_number production_number operator_number comparison_number logical_number
 name-alone = refl
@@ -90,7 +97,8 @@ name_called = every_kind (λ k. when (is_open k) (λ _. takes (symbol.Read part.
     (readers call_pieces ++ symbol.Reduce make.CallFunction ∷ symbol.Read part.PostfixTail ∷ [])))
 
 name-called : name_called ≡ true
-unfolding name_called every_kind each kinds when accepts keyword_number punctuator_number any_accepts takes takes_now taken taken_by settle once
+unfolding name_called every_kind each kinds when accepts keyword_number punctuator_number any_accepts takes takes_now taken taken_by
+    settle once
     stayed stayed_by choose
     rules same same_symbol symbol_number production_number operator_number comparison_number logical_number readers reader
 name-called = refl
@@ -110,7 +118,8 @@ name_is_closed x a o = go (is_open (kind_of x)) (when-at (accepts terminal.Name 
     go false h e = true≢false (sym e)
 
 -- an identifier is made of the name
-identifier-made : (x : Token) → accepts terminal.Name (kind_of x) ≡ true → (symbols : List Symbol) (values : List Written) (tokens : List Token)
+identifier-made : (x : Token) → accepts terminal.Name (kind_of x) ≡ true
+    → (symbols : List Symbol) (values : List Written) (tokens : List Token)
     → Reaches (at (inner (kind_of x) ++ symbols) (leaf x ∷ values) tokens)
     (at (symbol.Read part.AfterName ∷ symbols) (node make.Identifier (more (leaf x) none) ∷ values) tokens)
 unfolding name_inner push template Match IsProper dangles
@@ -140,7 +149,8 @@ name-behind _ (identifier x a) m = record {
 call-behind : (w : Written) (y : Token) (f : Forest) → IsIdentifier w → is_open (kind_of y) ≡ true
     → Match (template make.CallFunction) (more w (more (leaf y) f))
     → Match call_pieces f → AllKnown f → Behind (node make.CallFunction (more w (more (leaf y) f)))
-unfolding name_called tail_of levels_of level_of is_name_node is_bare_name barred_of home postfix_numbers tail_symbol push ends_open is_statement
+unfolding name_called tail_of levels_of level_of is_name_node is_bare_name barred_of home postfix_numbers tail_symbol push ends_open
+    is_statement
 call-behind _ y f (identifier x a) o m others known = record {
   first = x;
   rest = y ∷ spells f;
@@ -152,7 +162,8 @@ call-behind _ y f (identifier x a) o m others known = record {
       let called = takes-reaches (symbol.Read part.AfterName ∷ [])
       (readers call_pieces ++ symbol.Reduce make.CallFunction ∷ symbol.Read part.PostfixTail ∷ []) symbols
       (name ∷ values) y (spells f ++ t ∷ tokens) (when-at (is_open (kind_of y)) _ (at-kind _ name-called (kind_of y)) o) in
-      let read = sequence-reads call_pieces f (may_end make.CallFunction) (symbol.Reduce make.CallFunction ∷ (symbol.Read part.PostfixTail ∷ symbols))
+      let read = sequence-reads call_pieces f (may_end make.CallFunction)
+      (symbol.Reduce make.CallFunction ∷ (symbol.Read part.PostfixTail ∷ symbols))
       (leaf y ∷ (name ∷ values)) (t ∷ tokens) call-fits others known e (λ o. absurd (true≢false (sym o))) in
       let made = reduce-step make.CallFunction (symbol.Read part.PostfixTail ∷ symbols) (push whole values) (t ∷ tokens) in
       join (identifier-made x a symbols values (y ∷ (spells f ++ t ∷ tokens)))

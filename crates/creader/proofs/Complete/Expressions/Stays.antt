@@ -1,5 +1,6 @@
 -- Steps that take no token, and the step that takes one, computed from the symbols and the kind of the next token.
-use Rattle.std.proofs.Common.{◌≡◌, ℕ, zero, suc, Bool, true, false, List, [], ◌∷◌, ◌++◌, Option, Some, None, refl, sym, subst, true≢false, append_assoc}
+use Rattle.std.proofs.Common.{◌≡◌, ℕ, zero, suc, Bool, true, false, List, [], ◌∷◌, ◌++◌, Option, Some}
+use Rattle.std.proofs.Common.{None, refl, sym, subst, true≢false, append_assoc}
 use Rattle.csyn.specs.declared.token.Token.{Token}
 use Rattle.cgrammar.specs.declared.kind.Kind.{Kind}
 use Rattle.creader.specs.declared.part.Part.{Part}
@@ -47,7 +48,8 @@ pub once-reaches : (symbols more : List Symbol) (values : List Written) (t : Tok
     → Reaches (at (symbols ++ more) values (t ∷ tokens)) (at (once symbols (kind_of t) ++ more) values (t ∷ tokens))
 unfolding once
 once-reaches [] more values t tokens = Reaches.here
-once-reaches (symbol.Read p ∷ symbols) more values t tokens = once_by_rule p symbols more values t tokens (choose (rules p) (kind_of t)) refl
+once-reaches (symbol.Read p ∷ symbols) more values t tokens =
+    once_by_rule p symbols more values t tokens (choose (rules p) (kind_of t)) refl
 once-reaches (_ ∷ symbols) more values t tokens = Reaches.here
 
 -- so many steps, as long as they leave the token

@@ -1,5 +1,6 @@
 -- Lists of symbols are compared by computing. Only the symbols by which expressions are read are told apart.
-use Rattle.std.proofs.Common.{◌≡◌, ℕ, Bool, true, false, ◌&&◌, nat_eq, nat_le, List, [], ◌∷◌, get_or, Some, refl, sym, ◌∙◌, ap, ap₂, true≢false}
+use Rattle.std.proofs.Common.{◌≡◌, ℕ, Bool, true, false, ◌&&◌, nat_eq, nat_le, List, [], ◌∷◌}
+use Rattle.std.proofs.Common.{get_or, Some, refl, sym, ◌∙◌, ap, ap₂, true≢false}
 use Rattle.std.proofs.lemmas.Bool.{and_parts, eqb-true}
 use Rattle.csyn.specs.declared.punctuator.Punctuator.TheVariants as punctuator
 use Rattle.cgrammar.specs.declared.production.Production.{Production}
@@ -136,7 +137,8 @@ unfoldable pub same_symbol : Symbol → Symbol → Bool
 same_symbol (symbol.Reduce p) (symbol.Reduce q) = nat_eq (production_number p) (production_number q)
 same_symbol a b = nat_eq (symbol_number a) (symbol_number b) && (nat_le (symbol_number a) 40 && nat_le (symbol_number b) 40)
 
-by_number : (a b : Symbol) → (nat_eq (symbol_number a) (symbol_number b) && (nat_le (symbol_number a) 40 && nat_le (symbol_number b) 40)) ≡ true
+by_number : (a b : Symbol) → (nat_eq (symbol_number a) (symbol_number b) &&
+    (nat_le (symbol_number a) 40 && nat_le (symbol_number b) 40)) ≡ true
     → a ≡ b
 by_number a b h =
     let one = and_parts (nat_eq (symbol_number a) (symbol_number b)) _ h in

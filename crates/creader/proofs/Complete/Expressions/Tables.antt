@@ -1,5 +1,6 @@
 -- Facts that are computed: a test at all numbers below a bound, at all productions of expressions.
-use Rattle.std.proofs.Common.{◌≡◌, ℕ, zero, suc, ◌<◌, Bool, true, false, ◌&&◌, ◌⊎◌, List, [], ◌∷◌, refl, sym, subst, inl, inr, true≢false, arith, zero-le}
+use Rattle.std.proofs.Common.{◌≡◌, ℕ, zero, suc, ◌<◌, Bool, true, false, ◌&&◌, ◌⊎◌, List, [], ◌∷◌, refl}
+use Rattle.std.proofs.Common.{sym, subst, inl, inr, true≢false, arith, zero-le}
 use Rattle.std.proofs.lemmas.Bool.{and_parts, or_right, le-leb}
 use Rattle.cgrammar.specs.declared.production.Production.{Production}
 use Rattle.cgrammar.specs.declared.production.Word.{Word}
@@ -7,7 +8,8 @@ use Rattle.cgrammar.specs.declared.production.Word.TheVariants as word
 use Rattle.cgrammar.specs.declared.production.Words.{Words}
 use Rattle.cgrammar.specs.declared.production.Words.TheVariants as every_word
 use Rattle.cgrammar.specs.Grammar as class
-use Rattle.cgrammar.specs.Grammar.{Class, home, under, is_wider, class_number, words_number, operator_level, comparison_level, logical_level, alone, joined}
+use Rattle.cgrammar.specs.Grammar.{Class, home, under, is_wider, class_number, words_number, operator_level}
+use Rattle.cgrammar.specs.Grammar.{comparison_level, logical_level, alone, joined}
 use Rattle.creader.proofs.Complete.Kinds.{each}
 use Rattle.creader.proofs.Complete.Productions.{productions, kept, makers, In, in-makers}
 use Rattle.creader.proofs.Complete.Heads.{is_expression, is_level}

@@ -1,5 +1,6 @@
 -- What has been left behind an expression goes away before a token that can't go on with it.
-use Rattle.std.proofs.Common.{◌≡◌, ℕ, zero, suc, ◌+◌, ◌<◌, ◌≤◌, Bool, true, false, not, ◌&&◌, nat_le, List, [], ◌∷◌, ◌++◌, map, refl, subst, zero-add, suc-add, ◌-◌, arith}
+use Rattle.std.proofs.Common.{◌≡◌, ℕ, zero, suc, ◌+◌, ◌<◌, ◌≤◌, Bool, true, false, not, ◌&&◌, nat_le, List, []}
+use Rattle.std.proofs.Common.{◌∷◌, ◌++◌, map, refl, subst, zero-add, suc-add, ◌-◌, arith}
 use Rattle.std.proofs.lemmas.Bool.{and_parts, and_from, leb-true}
 use Rattle.csyn.specs.declared.token.Token.{Token}
 use Rattle.cgrammar.specs.declared.kind.Kind.{Kind}
@@ -12,7 +13,8 @@ use Rattle.cgrammar.specs.Grammar.{home, operator_level, comparison_level, logic
 use Rattle.cgrammar.specs.Text.{Written}
 use Rattle.creader.specs.Machine.{at, Reaches}
 use Rattle.creader.proofs.Complete.Reading.{extenders, operators_from}
-use Rattle.creader.proofs.Complete.Heads.{level_of, is_level, is_expression, tail_symbol, left_numbers, postfix_numbers, after_numbers, chain_numbers, barred}
+use Rattle.creader.proofs.Complete.Heads.{level_of, is_level, is_expression, tail_symbol, left_numbers}
+use Rattle.creader.proofs.Complete.Heads.{postfix_numbers, after_numbers, chain_numbers, barred}
 use Rattle.creader.proofs.Complete.Kinds.{each, every_kind, at-kind, kinds}
 use Rattle.creader.proofs.Complete.Steps.{join}
 use Rattle.creader.proofs.Complete.Expressions.Tables.{when, when-at, every_below, below-at, every_expression, at-expression}
@@ -28,7 +30,8 @@ unfoldable tighter_test : Bool
 tighter_test = every_below 15 (λ n. every_kind (λ k. when (allowed n k) (λ _. allowed (suc n) k)))
 
 tighter_holds : tighter_test ≡ true
-unfolding tighter_test every_below every_kind each kinds when allowed any_accepts accepts keyword_number punctuator_number extenders operators_from
+unfolding tighter_test every_below every_kind each kinds when allowed any_accepts accepts keyword_number punctuator_number extenders
+    operators_from
 tighter_holds = refl
 
 tighter : (n : ℕ) (k : Kind) → n < 15 → allowed n k ≡ true → allowed (suc n) k ≡ true
@@ -50,7 +53,8 @@ ends_test = every_expression (λ p. when (is_expression p) (λ _. nat_le (level_
     && every_kind (λ k. when (allowed (level_of (home p)) k) (λ _. not (any_accepts (barred p) k)))))
 
 ends_holds : ends_test ≡ true
-unfolding ends_test every_expression is_expression is_level home operator_level comparison_level logical_level level_of barred every_kind each kinds when allowed
+unfolding ends_test every_expression is_expression is_level home operator_level comparison_level logical_level level_of barred
+    every_kind each kinds when allowed
     any_accepts accepts keyword_number punctuator_number extenders operators_from
 ends_holds = refl
 
@@ -81,10 +85,12 @@ gone-reaches (tail ∷ tails) more values t tokens h =
 
 -- each tail from level n on goes away before what may stand behind an expression of level n
 unfoldable gone_test : Bool
-gone_test = every_below 15 (λ n. every_kind (λ k. when (allowed n k) (λ _. every_below 16 (λ tail. when (nat_le n tail) (λ _. gone k tail)))))
+gone_test = every_below 15 (λ n. every_kind (λ k. when (allowed n k)
+    (λ _. every_below 16 (λ tail. when (nat_le n tail) (λ _. gone k tail)))))
 
 gone_holds : gone_test ≡ true
-unfolding gone_test gone every_kind every_below each kinds when allowed any_accepts accepts keyword_number punctuator_number extenders operators_from
+unfolding gone_test gone every_kind every_below each kinds when allowed any_accepts accepts keyword_number punctuator_number
+    extenders operators_from
     tail_symbol settles settle once stayed stayed_by choose rules chain_rules chain_tail_rules same
 gone_holds = refl
 
@@ -98,7 +104,8 @@ left_holds : left_test ≡ true
 unfolding left_test every_below each when left_numbers postfix_numbers after_numbers chain_numbers
 left_holds = refl
 
-each-implies : (test other : ℕ → Bool) → ((x : ℕ) → test x ≡ true → other x ≡ true) → (xs : List ℕ) → each test xs ≡ true → each other xs ≡ true
+each-implies : (test other : ℕ → Bool) → ((x : ℕ) → test x ≡ true → other x ≡ true) → (xs : List ℕ) → each test xs ≡ true
+    → each other xs ≡ true
 unfolding each
 each-implies test other f [] h = refl
 each-implies test other f (x ∷ xs) h =
@@ -113,7 +120,8 @@ left_in_range n m false a b l = (and_parts _ _ (when-at (nat_le n m) _ (below-at
 
 gone_at : (n tail : ℕ) (k : Kind) → n < 15 → allowed n k ≡ true → nat_le n tail ≡ true → tail < 16 → gone k tail ≡ true
 unfolding gone_test
-gone_at n tail k a h l b = when-at (nat_le n tail) _ (below-at 16 _ (when-at (allowed n k) _ (at-kind _ (below-at 15 _ gone_holds n a) k) h) tail b) l
+gone_at n tail k a h l b = when-at (nat_le n tail) _ (below-at 16 _
+    (when-at (allowed n k) _ (at-kind _ (below-at 15 _ gone_holds n a) k) h) tail b) l
 
 -- all that has been left goes away
 pub left-gone : (n m : ℕ) (name : Bool) (k : Kind) → n < 15 → m < 16 → nat_le n m ≡ true → allowed n k ≡ true

@@ -11,14 +11,19 @@ use Rattle.creader.proofs.Reading.Few.{few-made}
 use Rattle.creader.proofs.read.read_entries.Goals as goal
 
 pub loop-place-init : goal.loop-place-init
-loop-place-init c = record { run = begun c.args.tokens.now (held c.in_ok-reader.reader) c.in_ok-reader.ensures; place = ap (λ h. h.place) c.in_ok-reader.ensures }
+loop-place-init c = record {
+  run = begun c.args.tokens.now (held c.in_ok-reader.reader) c.in_ok-reader.ensures;
+  place =
+      ap (λ h. h.place) c.in_ok-reader.ensures;
+}
 
 pub loop-place-preserved : goal.loop-place-preserved
 loop-place-preserved c =
     let feeds : Feeds c.of.result true (held c.loop-place.reader) (held c.feed.new.self) =
     subst (λ b. Feeds c.of.result b (held c.loop-place.reader) (held c.feed.new.self)) c.if-not-branch.false c.in_ok-feed.ensures in
     record {
-      run = taken-at c.args.tokens.now c.loop-place.place c.index-tokens-place.result c.of.result (held c.loop-place.reader) (held c.feed.new.self)
+      run = taken-at c.args.tokens.now c.loop-place.place c.index-tokens-place.result c.of.result (held c.loop-place.reader)
+          (held c.feed.new.self)
           c.index-tokens-place.is c.loop-place-test.true c.of.ensures feeds c.loop-place.invariant.run;
       place = fed-place c.of.result (held c.loop-place.reader) (held c.feed.new.self) feeds ∙ ap (λ n. n + 1) c.loop-place.invariant.place;
     }
@@ -27,7 +32,8 @@ pub returns-then-not-branch-clause-fault : goal.returns-then-not-branch-clause-f
 returns-then-not-branch-clause-fault c =
     let feeds : Feeds c.of.result false (held c.loop-place.reader) (held c.feed.new.self) =
     subst (λ b. Feeds c.of.result b (held c.loop-place.reader) (held c.feed.new.self)) c.if-not-branch.true c.in_ok-feed.ensures in
-    refused-at sound whole c.args.tokens.now c.loop-place.place c.index-tokens-place.result c.of.result (held c.loop-place.reader) (held c.feed.new.self)
+    refused-at sound whole c.args.tokens.now c.loop-place.place c.index-tokens-place.result c.of.result (held c.loop-place.reader)
+    (held c.feed.new.self)
     c.requires.ends c.index-tokens-place.is c.loop-place-test.true c.of.ensures feeds c.loop-place.invariant.run
 
 -- something left that wants a token: that never is
@@ -40,8 +46,10 @@ returns-then-not-branch-2-clause-fault c =
     absurd (never-left sound whole c.args.tokens.now c.requires.ends left.0 left.1)
 
 -- where the reader ends
-at_last : (tokens : List Token) (place : ℕ) (before after : Held) {all : Bool} → length tokens ≤ place → Run (start tokens) before (drop place tokens)
-    → ◌≡◌ {A = Bool × Held} (finished before.symbols before) (all, after) → all ≡ true → Run (start tokens) (record after { symbols = [] }) []
+at_last : (tokens : List Token) (place : ℕ) (before after : Held) {all : Bool} → length tokens ≤ place
+    → Run (start tokens) before (drop place tokens)
+    → ◌≡◌ {A = Bool × Held} (finished before.symbols before) (all, after) → all ≡ true
+    → Run (start tokens) (record after { symbols = [] }) []
 at_last tokens place before after over run e is =
     ended (start tokens) before after (e ∙ ap (λ b. (b, after)) is) (at-end tokens place before over run)
 

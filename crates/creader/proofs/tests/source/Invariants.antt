@@ -5,4 +5,7 @@ use Rattle.creader.proofs.tests.source.Given as goal
 
 -- a token for each word so far, and none of them is the end's
 abbrev pub invariant-loop-word : goal.invariant-loop-word
-invariant-loop-word l = record { count : length l.tokens.items ≡ l.word-index; none : All (λ token. kind_of token ≢ kind.End) l.tokens.items }
+invariant-loop-word l = record {
+  count : length l.tokens.items ≡ l.word-index;
+  none : All (λ token. kind_of token ≢ kind.End) l.tokens.items;
+}

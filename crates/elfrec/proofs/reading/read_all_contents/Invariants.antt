@@ -5,4 +5,5 @@ use Rattle.elfrec.proofs.reading.read_all_contents.Given as goal
 
 -- what was read so far and what is still to read is the whole
 abbrev pub invariant-loop-section : goal.invariant-loop-section
-invariant-loop-section l = with_front l.contents.items (all_contents_of (drop l.section-index l.sections) l.bytes) ≡ all_contents_of l.sections l.bytes
+invariant-loop-section l = with_front l.contents.items (all_contents_of (drop l.section-index l.sections) l.bytes)
+    ≡ all_contents_of l.sections l.bytes

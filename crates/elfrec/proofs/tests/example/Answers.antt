@@ -24,10 +24,12 @@ bytes_and_records x y = held.Bytes (16 ∷ 32 ∷ 48 ∷ 64 ∷ []) ∷ held.Sym
 abbrev file : Header → Segment → Section → Section → Section → Symbol → Rela → ElfFile
 file h g t s u x y = made h (g ∷ []) (t ∷ s ∷ u ∷ []) (bytes_and_records x y)
 
-are_apart : (h : Header) (g : Segment) (t s u : Section) (x : Symbol) (y : Rela) → length h.identification ≡ 16 → h.program_header_offset ≡ 52 → h.section_header_offset ≡ 116
+are_apart : (h : Header) (g : Segment) (t s u : Section) (x : Symbol) (y : Rela) → length h.identification ≡ 16
+    → h.program_header_offset ≡ 52 → h.section_header_offset ≡ 116
     → t.offset ≡ 84 → s.offset ≡ 88 → u.offset ≡ 104 → AreApart (parts (file h g t s u x y))
 are_apart h g t s u x y i p q a b c =
-    let long : length (h.identification ++ fields_bytes (header_fields h)) ≡ 52 = omega (arith, length-append h.identification (fields_bytes (header_fields h))) in (
+    let long : length (h.identification ++ fields_bytes (header_fields h)) ≡ 52 =
+    omega (arith, length-append h.identification (fields_bytes (header_fields h))) in (
       (λ k l r. omega arith, (λ k l r. omega arith, (λ k l r. omega arith, (λ k l r. omega arith, (λ k l r. omega arith, tt))))),
       (
         (λ k l r. omega arith, (λ k l r. omega arith, (λ k l r. omega arith, (λ k l r. omega arith, tt)))),

@@ -21,10 +21,12 @@ lines-preserved c =
     let ok = c.in_default-add_line.ensures.ok in
     record {
       before = inv.before ++ line ∷ [];
-      lines = inv.lines ∙ ap (λ ls. inv.before ++ ls) c.in-Some.ensures.some ∙ sym (append_assoc inv.before (line ∷ []) (lines_of c.next_line.new.self.text));
+      lines = inv.lines ∙ ap (λ ls. inv.before ++ ls) c.in-Some.ensures.some
+          ∙ sym (append_assoc inv.before (line ∷ []) (lines_of c.next_line.new.self.text));
       number = omega (arith, c.in-Some.ensures.number, inv.number, length-append inv.before (line ∷ []));
       said = inv.said ++ ok.0 ∷ [];
-      good = more_good inv.before line inv.said ok.0 c.lines.draft c.add_line.new.draft inv.good inv.holds ok.1 ok.2 c.in_default-add_line.ensures.order;
+      good = more_good inv.before line inv.said ok.0 c.lines.draft c.add_line.new.draft inv.good inv.holds ok.1 ok.2
+          c.in_default-add_line.ensures.order;
       holds = more_holds inv.said ok.0 c.lines.draft c.add_line.new.draft inv.holds ok.2;
     }
 
@@ -33,5 +35,7 @@ returns-in-Err-clause-fault c =
     let inv = c.lines.invariant in
     let line = c.in-Some.line.now in
     subst (IsFaultOf c.args.bytes.now) (sym c.at.ensures)
-    (first_bad c.args.bytes.now inv.before line (lines_of c.next_line.new.self.text) c.number-number.result inv.said c.lines.draft c.in-Err.fault
-    (inv.lines ∙ ap (λ ls. inv.before ++ ls) c.in-Some.ensures.some) (c.number-number.ensures ∙ inv.number) inv.good inv.holds c.in-Err.ensures.fault)
+    (first_bad c.args.bytes.now inv.before line (lines_of c.next_line.new.self.text) c.number-number.result inv.said c.lines.draft
+    c.in-Err.fault
+    (inv.lines ∙ ap (λ ls. inv.before ++ ls) c.in-Some.ensures.some) (c.number-number.ensures ∙ inv.number) inv.good inv.holds
+    c.in-Err.ensures.fault)

@@ -8,4 +8,5 @@ returns-then-is_access-clause-value c = access_found _ c.args.r (search rules) (
 
 pub returns-else-is_access-clause-value : goal.returns-else-is_access-clause-value
 returns-else-is_access-clause-value c =
-    access_refused c.args.r c.args.base c.args.offset _ _ _ c.is_access.result c.is_access.ensures c.if-is_access.false refl refl (omega arith)
+    access_refused c.args.r c.args.base c.args.offset _ _ _ c.is_access.result c.is_access.ensures c.if-is_access.false refl refl
+    (omega arith)

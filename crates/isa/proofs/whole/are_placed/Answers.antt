@@ -12,4 +12,5 @@ returns-then-not-may_precede-clause-placed c =
 
 pub loop-item-preserved : goal.loop-item-preserved
 loop-item-preserved c =
-    placed_more _ _ _ _ _ _ _ c.loop-item.invariant.1 c.in-Some.ensures.cases.0 (sym c.may_precede.ensures ∙ c.if-not-may_precede.false) c.in_ok-add_label.ensures
+    placed_more _ _ _ _ _ _ _ c.loop-item.invariant.1 c.in-Some.ensures.cases.0
+    (sym c.may_precede.ensures ∙ c.if-not-may_precede.false) c.in_ok-add_label.ensures

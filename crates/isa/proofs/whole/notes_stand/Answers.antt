@@ -8,12 +8,14 @@ use Rattle.isa.proofs.whole.notes_stand.Goals as goal
 pub returns-then-not-may_follow : goal.returns-then-not-may_follow
 returns-then-not-may_follow c =
     not_standing _ _ _ _ _ _ _ c.loop-item.invariant.1 c.in-Some.ensures.cases.0
-    (ap (λ ks. may_follow c.loop-item.before.keys ks c.in-Some.item.now) (sym c.deref.ensures.value) ∙ sym c.may_follow.ensures ∙ c.if-not-may_follow.true)
+    (ap (λ ks. may_follow c.loop-item.before.keys ks c.in-Some.item.now) (sym c.deref.ensures.value) ∙ sym c.may_follow.ensures
+    ∙ c.if-not-may_follow.true)
 
 pub loop-item-preserved : goal.loop-item-preserved
 loop-item-preserved c =
     standing_more _ _ _ _ _ _ _ _ _ c.loop-item.invariant.1 c.in-Some.ensures.cases.0
-    (ap (λ ks. may_follow c.loop-item.before.keys ks c.in-Some.item.now) (sym c.deref.ensures.value) ∙ sym c.may_follow.ensures ∙ c.if-not-may_follow.false)
+    (ap (λ ks. may_follow c.loop-item.before.keys ks c.in-Some.item.now) (sym c.deref.ensures.value) ∙ sym c.may_follow.ensures
+    ∙ c.if-not-may_follow.false)
     c.in_ok-add_label.ensures c.in_ok-pass.ensures
 
 pub returns : goal.returns

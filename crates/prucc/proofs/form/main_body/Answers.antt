@@ -11,5 +11,6 @@ begin_of u = Some u.mark.span
 pub returns-in_default-main_of-clause-err : goal.returns-in_default-main_of-clause-err
 returns-in_default-main_of-clause-err c =
     ap (units_departure c.args.end) c.in-More.is
-    ∙ other_unit c.args.end c.in-More.unit _ c.in-More.rest.value (λ body h. c.in_default-main_of.ensures body (subst (λ (u : unit.Unit). IsMain u.kind body) (sym c.deref.ensures) h))
+    ∙ other_unit c.args.end c.in-More.unit _ c.in-More.rest.value
+    (λ body h. c.in_default-main_of.ensures body (subst (λ (u : unit.Unit). IsMain u.kind body) (sym c.deref.ensures) h))
     ∙ ap begin_of (sym c.deref-in_default-main_of.ensures)

@@ -9,14 +9,17 @@ pub returns-in_err-rest : goal.returns-in_err-rest
 returns-in_err-rest c =
     let l = c.loop-value in
     let p = err_from_is_err_and c.from_residual.result c.from_residual.ensures.1 in
-    rw (p.1, p.2) (value_fails c.in_err-rest.field-0.0 c.args.cause (kind_of c.args.width) c.args.values.now l.value-index c.args.end l.rest.now _
-    (fixed_in c.args.cause (kind_of c.args.width) c.args.values.now c.args.end c.args.bytes.now) c.loop-value-test.true refl c.in_err-rest.ensures l.invariant)
+    rw (p.1, p.2) (value_fails c.in_err-rest.field-0.0 c.args.cause (kind_of c.args.width) c.args.values.now l.value-index
+    c.args.end l.rest.now _
+    (fixed_in c.args.cause (kind_of c.args.width) c.args.values.now c.args.end c.args.bytes.now) c.loop-value-test.true refl
+    c.in_err-rest.ensures l.invariant)
 
 pub loop-value-preserved : goal.loop-value-preserved
 loop-value-preserved c =
     let l = c.loop-value in
     value_read c.args.cause (kind_of c.args.width) c.args.values.now l.value-index c.args.end l.rest.now _ c.in_ok-rest.rest.now
-    (fixed_in c.args.cause (kind_of c.args.width) c.args.values.now c.args.end c.args.bytes.now) c.loop-value-test.true refl c.in_ok-rest.ensures l.invariant
+    (fixed_in c.args.cause (kind_of c.args.width) c.args.values.now c.args.end c.args.bytes.now) c.loop-value-test.true refl
+    c.in_ok-rest.ensures l.invariant
 
 pub returns : goal.returns
 returns c =

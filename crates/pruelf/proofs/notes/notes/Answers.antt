@@ -13,14 +13,16 @@ unfolding note_in
 returns-in_err-note c =
     let l = c.notes in
     let p = err_from_is_err_and c.from_residual.result c.from_residual.ensures.1 in
-    rw (p.1, p.2) (ends c.in_err-note.field-0.0 (note_in c.args.words.now c.args.end) l.notes.items c.args.count l.counter l.before l.rest.now
+    rw (p.1, p.2) (ends c.in_err-note.field-0.0 (note_in c.args.words.now c.args.end) l.notes.items c.args.count l.counter l.before
+    l.rest.now
     (many_in (note_in c.args.words.now c.args.end) c.args.count None c.args.bytes.now) c.notes-test.true c.in_err-note.ensures l.invariant)
 
 pub notes-preserved : goal.notes-preserved
 unfolding note_in
 notes-preserved c =
     let l = c.notes in
-    rw c.in_ok-push.ensures.items (goes_on (note_in c.args.words.now c.args.end) l.notes.items c.args.count l.counter l.before l.rest.now c.in_ok-note.note c.in_ok-note.behind.now
+    rw c.in_ok-push.ensures.items (goes_on (note_in c.args.words.now c.args.end) l.notes.items c.args.count l.counter l.before
+    l.rest.now c.in_ok-note.note c.in_ok-note.behind.now
     (many_in (note_in c.args.words.now c.args.end) c.args.count None c.args.bytes.now) c.notes-test.true c.in_ok-note.ensures l.invariant)
 
 pub returns : goal.returns

@@ -6,4 +6,5 @@ use Rattle.pruelf.proofs.notes.notes.Given as goal
 
 -- the notes so far and those to come are those of the whole
 abbrev pub invariant-notes : goal.invariant-notes
-invariant-notes l = with_front l.notes.items (many_in (note_in l.words l.end) (l.count - l.counter) l.before l.rest) ≡ many_in (note_in l.words l.end) l.count None l.bytes
+invariant-notes l = with_front l.notes.items (many_in (note_in l.words l.end) (l.count - l.counter) l.before l.rest)
+    ≡ many_in (note_in l.words l.end) l.count None l.bytes

@@ -18,7 +18,8 @@ returns-in_err-entry c =
 pub entries-preserved : goal.entries-preserved
 entries-preserved c =
     let l = c.entries in
-    rw c.in_ok-push.ensures.items (goes_on (entry_in c.args.names c.args.end) l.entries.items c.args.count l.i l.before l.rest.now c.in_ok-entry.entry c.in_ok-entry.behind.now
+    rw c.in_ok-push.ensures.items (goes_on (entry_in c.args.names c.args.end) l.entries.items c.args.count l.i l.before l.rest.now
+    c.in_ok-entry.entry c.in_ok-entry.behind.now
     (many_in (entry_in c.args.names c.args.end) c.args.count None c.args.bytes.now) c.entries-test.true c.in_ok-entry.ensures l.invariant)
 
 pub returns : goal.returns

@@ -6,4 +6,5 @@ use Rattle.pruelf.proofs.symbols.many_entries.Given as goal
 
 -- the symbols so far and those to come are those of the whole
 abbrev pub invariant-entries : goal.invariant-entries
-invariant-entries l = with_front l.entries.items (many_in (entry_in l.names l.end) (l.count - l.i) l.before l.rest) ≡ many_in (entry_in l.names l.end) l.count None l.bytes
+invariant-entries l = with_front l.entries.items (many_in (entry_in l.names l.end) (l.count - l.i) l.before l.rest)
+    ≡ many_in (entry_in l.names l.end) l.count None l.bytes

@@ -5,4 +5,5 @@ use Rattle.pruelf.proofs.symbols.many_names.Given as goal
 
 -- the symbols so far and those to come are those of the whole
 abbrev pub invariant-loop-i : goal.invariant-loop-i
-invariant-loop-i l = with_front l.symbols.items (named_in l.size (drop l.i l.entries) l.end l.rest) ≡ named_in l.size l.entries l.end l.bytes
+invariant-loop-i l = with_front l.symbols.items (named_in l.size (drop l.i l.entries) l.end l.rest)
+    ≡ named_in l.size l.entries l.end l.bytes

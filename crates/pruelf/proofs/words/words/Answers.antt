@@ -19,7 +19,8 @@ pub words-preserved : goal.words-preserved
 words-preserved c =
     let l = c.words in (
       Some c.in_ok-number.number,
-      rw c.in_ok-push.ensures.items (goes_on (word_in c.args.end) l.words.items c.args.count l.counter l.invariant.0 l.rest.now c.in_ok-number.number c.in_ok-number.behind.now
+      rw c.in_ok-push.ensures.items (goes_on (word_in c.args.end) l.words.items c.args.count l.counter l.invariant.0 l.rest.now
+          c.in_ok-number.number c.in_ok-number.behind.now
           (many_in (word_in c.args.end) c.args.count None c.args.bytes.now) c.words-test.true c.in_ok-number.ensures l.invariant.1),
     )
 

@@ -6,4 +6,5 @@ use Rattle.pruelf.proofs.words.words.Given as goal
 
 -- the words so far and those to come are those of the whole
 abbrev pub invariant-words : goal.invariant-words
-invariant-words l = (before : Option ℕ) × (with_front l.words.items (many_in (word_in l.end) (l.count - l.counter) before l.rest) ≡ many_in (word_in l.end) l.count None l.bytes)
+invariant-words l = (before : Option ℕ) × (with_front l.words.items (many_in (word_in l.end) (l.count - l.counter) before l.rest)
+    ≡ many_in (word_in l.end) l.count None l.bytes)

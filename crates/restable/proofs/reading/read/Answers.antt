@@ -8,4 +8,5 @@ returns-clause-found c = is_found c.args.bytes.now c.read_table.result (λ i. om
 
 pub returns-clause-only : goal.returns-clause-only
 returns-clause-only c = λ traces fits e.
-    subst (λ f. Gives (λ v. v.items) c.read_table.result f) (ap table_in e ∙ table_again traces fits (subst (λ (bytes : List ℕ). length bytes < 2 ^ 31) e c.requires)) c.read_table.ensures
+    subst (λ f. Gives (λ v. v.items) c.read_table.result f) (ap table_in e
+    ∙ table_again traces fits (subst (λ (bytes : List ℕ). length bytes < 2 ^ 31) e c.requires)) c.read_table.ensures

@@ -9,5 +9,6 @@ loop-digit-preserved c =
     let word = c.args.digits.now in
     record {
       digits = digits_step word l.digit-index c.loop-digit-test.true l.invariant.digits one;
-      value = value_step word l.digit-index l.value c.saturating_mul.result c.from.result c.saturating_add-value.result c.loop-digit-test.true l.invariant.value one c.saturating_mul.ensures c.from.ensures c.saturating_add-value.ensures;
+      value = value_step word l.digit-index l.value c.saturating_mul.result c.from.result c.saturating_add-value.result
+          c.loop-digit-test.true l.invariant.value one c.saturating_mul.ensures c.from.ensures c.saturating_add-value.ensures;
     }

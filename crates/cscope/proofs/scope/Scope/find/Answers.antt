@@ -9,7 +9,11 @@ index-requires-in-Some c =
     let nearest = c.self.inside.nearest.items in
     let within : c.args.name.0 < length nearest = omega (arith, c.requires, ap (λ d. d.names) c.self.view_is) in
     let read = sym (get_or_read nearest _ _ within c.index.ensures None) ∙ c.in-Some.is in
-    omega (arith, at_below c.self.inside.slots.items nearest c.args.name.0 c.in-Some.at c.self.invariant within read, c.self.inside.slots.ok.0)
+    omega (
+      arith,
+      at_below c.self.inside.slots.items nearest c.args.name.0 c.in-Some.at c.self.invariant within read,
+      c.self.inside.slots.ok.0,
+    )
 
 pub returns-in-None : goal.returns-in-None
 returns-in-None c =

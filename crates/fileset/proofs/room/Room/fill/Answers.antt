@@ -4,7 +4,8 @@ use Rattle.std.proofs.lemmas.Grind.{common_steps}
 use Rattle.fileset.proofs.room.Room.fill.Goals as goal
 
 -- as many of the bytes as fit behind those that stand there are the first that fit of both
-filled : (taken bytes : List ℕ) (size : ℕ) → length taken ≤ size → taken ++ take (min (length bytes) (size - length taken)) bytes ≡ take size (taken ++ bytes)
+filled : (taken bytes : List ℕ) (size : ℕ) → length taken ≤ size
+    → taken ++ take (min (length bytes) (size - length taken)) bytes ≡ take size (taken ++ bytes)
 filled taken bytes size fits =
     let behind = take-append-add taken bytes (size - length taken) in
     grind (arith, common_steps, behind)

@@ -19,4 +19,5 @@ returns g c = λ list front value back stands.
     let lists = c.args.self.now.lists in
     let s = store_of c.self.inside.links in
     let held = held_by s lists (ap (λ (m : Lists T). m.lists) c.self.view_is) c.self.invariant.0 in
-    ap (λ (n : Node T). n.value) (node_read s lists c.node.inside.key c.index.result.now held c.index.ensures list front value back (subst (λ (k : ℕ). Stands lists list front k value back) (sym c.node.view_is) stands))
+    ap (λ (n : Node T). n.value) (node_read s lists c.node.inside.key c.index.result.now held c.index.ensures list front value back
+    (subst (λ (k : ℕ). Stands lists list front k value back) (sym c.node.view_is) stands))

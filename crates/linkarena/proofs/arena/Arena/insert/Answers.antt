@@ -16,8 +16,11 @@ invariant_of-self g c =
     let held = held_by s lists (ap (λ (m : Lists T). m.lists) c.self.view_is) c.self.invariant.0 in
     let r : Store T = record { nodes = c.reserve.new.self; ends = s.ends } in
     let slots : r.nodes.slots ≡ s.nodes.slots = ap (λ (n : Slab (Node T)). n.slots) c.reserve.ensures.rest_kept in
-    let len = len_room s r slots in
-    (seen r lists (holds_room s r lists refl slots held), room_kept s.nodes r.nodes c.self.inside.spare c.self.inside.spare c.self.invariant.1 (omega (arith, len)) (omega (arith, len)) c.reserve.ensures.capacity)
+    let len = len_room s r slots in (
+      seen r lists (holds_room s r lists refl slots held),
+      room_kept s.nodes r.nodes c.self.inside.spare c.self.inside.spare
+          c.self.invariant.1 (omega (arith, len)) (omega (arith, len)) c.reserve.ensures.capacity,
+    )
 
 pub returns-then-is_err-clause-refuses : goal.returns-then-is_err-clause-refuses
 returns-then-is_err-clause-refuses g c =
@@ -33,11 +36,13 @@ returns-then-is_err-clause-refuses g c =
     record {
       full = (λ no. absurd no, λ many. c.if-len-eq-MOST_NODES.false (c.len.ensures ∙ sym held.counted ∙ many));
       memory = λ _. elim (cases_lt (slab_len s.nodes) s.nodes.capacity) [
-        | inl below ↦ let room : slab_len s.nodes + 1 ≤ s.nodes.capacity = omega arith in let fine = c.reserve.ensures.succeeds room in let no = sym failed ∙ fine in absurd (cc)
+        | inl below ↦ let room : slab_len s.nodes + 1 ≤ s.nodes.capacity = omega arith in
+            let fine = c.reserve.ensures.succeeds room in let no = sym failed ∙ fine in absurd (cc)
         | inr past ↦ omega (arith, spare, fits)
       ];
       back = refl;
-      unchanged = same_view c.args.self.now (lists_of r) c.self.inside.spare (lists_of-held r lists (holds_room s r lists refl slots held)) spare;
+      unchanged = same_view c.args.self.now (lists_of r) c.self.inside.spare
+          (lists_of-held r lists (holds_room s r lists refl slots held)) spare;
       spare = omega (arith, spare);
     }
 
@@ -52,7 +57,8 @@ put_in-requires-clause-before g c =
     let u : Store T = record { nodes = c.insert_reserved-key.new.self; ends = s.ends } in
     let key = c.insert_reserved-key.result in
     let e = c.insert_reserved-key.ensures in
-    let into = inserted s r u lists c.args.list key c.args.value c.args.prev c.args.next held refl slots refl e.updates e.was_vacant e.len c.requires.within c.requires.front c.requires.back c.requires.parts c.requires.before c.requires.behind in
+    let into = inserted s r u lists c.args.list key c.args.value c.args.prev c.args.next held refl slots refl e.updates e.was_vacant
+    e.len c.requires.within c.requires.front c.requires.back c.requires.parts c.requires.before c.requires.behind in
     into.before
 
 pub put_in-requires-clause-behind : goal.put_in-requires-clause-behind
@@ -66,7 +72,8 @@ put_in-requires-clause-behind g c =
     let u : Store T = record { nodes = c.insert_reserved-key.new.self; ends = s.ends } in
     let key = c.insert_reserved-key.result in
     let e = c.insert_reserved-key.ensures in
-    let into = inserted s r u lists c.args.list key c.args.value c.args.prev c.args.next held refl slots refl e.updates e.was_vacant e.len c.requires.within c.requires.front c.requires.back c.requires.parts c.requires.before c.requires.behind in
+    let into = inserted s r u lists c.args.list key c.args.value c.args.prev c.args.next held refl slots refl e.updates e.was_vacant
+    e.len c.requires.within c.requires.front c.requires.back c.requires.parts c.requires.before c.requires.behind in
     into.behind
 
 pub invariant_of-self-2 : goal.invariant_of-self-2
@@ -80,7 +87,8 @@ invariant_of-self-2 g c =
     let u : Store T = record { nodes = c.insert_reserved-key.new.self; ends = s.ends } in
     let key = c.insert_reserved-key.result in
     let e = c.insert_reserved-key.ensures in
-    let into = inserted s r u lists c.args.list key c.args.value c.args.prev c.args.next held refl slots refl e.updates e.was_vacant e.len c.requires.within c.requires.front c.requires.back c.requires.parts c.requires.before c.requires.behind in
+    let into = inserted s r u lists c.args.list key c.args.value c.args.prev c.args.next held refl slots refl e.updates e.was_vacant
+    e.len c.requires.within c.requires.front c.requires.back c.requires.parts c.requires.before c.requires.behind in
     let after = set lists c.args.list (c.requires.front ++ (key, c.args.value) ∷ c.requires.back) in
     let same = same_put u key c.args.list c.args.prev c.args.next into.before into.behind in
     let put_len = ap (λ (x : Store T). slab_len x.nodes) c.put_in.ensures in
@@ -90,11 +98,13 @@ invariant_of-self-2 g c =
     let there = c.self.invariant.1.there in
     let counted = c.self.invariant.1.counted in
     let few = c.self.invariant.1.few in
-    let room : slab_len r.nodes + 1 ≤ r.nodes.capacity = of_ok _ c.reserve.result (c.is_err.ensures.negation ∙ ap not c.if-is_err.false) c.reserve.ensures.room in
+    let room : slab_len r.nodes + 1 ≤ r.nodes.capacity = of_ok _ c.reserve.result
+    (c.is_err.ensures.negation ∙ ap not c.if-is_err.false) c.reserve.ensures.room in
     let kept = len_room s r slots in
     let below : slab_len s.nodes < 1048576 = elim (cases_lt (slab_len s.nodes) 1048576) [
       | inl below ↦ below
-      | inr past ↦ let many : slab_len s.nodes ≡ 1048576 = omega (arith, counted) in absurd (c.if-len-eq-MOST_NODES.false (c.len.ensures ∙ many))
+      | inr past ↦ let many : slab_len s.nodes ≡ 1048576 = omega (arith, counted) in
+          absurd (c.if-len-eq-MOST_NODES.false (c.len.ensures ∙ many))
     ] in (
       seen (store_of c.put_in.new.self) after (subst (λ (x : Store T). Holds x after) (sym c.put_in.ensures) into.holds),
       record {
@@ -115,7 +125,8 @@ returns-clause-added g c = λ front back parts before behind.
     let u : Store T = record { nodes = c.insert_reserved-key.new.self; ends = s.ends } in
     let key = c.insert_reserved-key.result in
     let e = c.insert_reserved-key.ensures in
-    let into = inserted s r u lists c.args.list key c.args.value c.args.prev c.args.next held refl slots refl e.updates e.was_vacant e.len c.requires.within front back parts before behind in
+    let into = inserted s r u lists c.args.list key c.args.value c.args.prev c.args.next held refl slots refl e.updates e.was_vacant
+    e.len c.requires.within front back parts before behind in
     let after = set lists c.args.list (front ++ (key, c.args.value) ∷ back) in
     lists_of-held (store_of c.put_in.new.self) after (subst (λ (x : Store T). Holds x after) (sym c.put_in.ensures) into.holds)
 
@@ -143,7 +154,8 @@ returns-clause-refuses g c =
     let u : Store T = record { nodes = c.insert_reserved-key.new.self; ends = s.ends } in
     let key = c.insert_reserved-key.result in
     let e = c.insert_reserved-key.ensures in
-    let into = inserted s r u lists c.args.list key c.args.value c.args.prev c.args.next held refl slots refl e.updates e.was_vacant e.len c.requires.within c.requires.front c.requires.back c.requires.parts c.requires.before c.requires.behind in
+    let into = inserted s r u lists c.args.list key c.args.value c.args.prev c.args.next held refl slots refl e.updates e.was_vacant
+    e.len c.requires.within c.requires.front c.requires.back c.requires.parts c.requires.before c.requires.behind in
     let spare : c.self.inside.spare ≡ c.args.self.now.spare = ap (λ (m : Lists T). m.spare) c.self.view_is in
     let fits = c.self.invariant.1.there in
     let same = same_put u key c.args.list c.args.prev c.args.next into.before into.behind in

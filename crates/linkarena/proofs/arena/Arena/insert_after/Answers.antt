@@ -32,5 +32,6 @@ returns-clause-added g c =
     let held = held_by s lists (ap (λ (m : Lists T). m.lists) c.self.view_is) c.self.invariant.0 in
     let key = c.node.inside.key in
     if_ok _ _ c.insert.result (λ new added list front here back stands.
-    put_behind s lists c.insert.new.self.lists key new c.index-before.result.now c.args.value held c.index-before.ensures added list front here back (subst (λ (k : ℕ). Stands lists list front k here back) (sym c.node.view_is) stands)
+    put_behind s lists c.insert.new.self.lists key new c.index-before.result.now c.args.value held c.index-before.ensures added list
+    front here back (subst (λ (k : ℕ). Stands lists list front k here back) (sym c.node.view_is) stands)
     ∙ ap (λ (k : ℕ). set lists list (front ++ (k, here) ∷ (new, c.args.value) ∷ back)) c.node.view_is) c.insert.ensures.added

@@ -16,8 +16,11 @@ invariant_of-self g c =
     let held = held_by s lists (ap (λ (m : Lists T). m.lists) c.self.view_is) c.self.invariant.0 in
     let slots : u.nodes.slots ≡ s.nodes.slots = ap (λ (n : Slab (Node T)). n.slots) c.reserve.ensures.rest_kept in
     let len = len_room s u slots in
-    let old = c.self.invariant.1 in
-    (seen u lists (holds_room s u lists refl slots held), room_kept s.nodes u.nodes c.self.inside.spare c.self.inside.spare old (omega (arith, len)) (omega (arith, len)) c.reserve.ensures.capacity)
+    let old = c.self.invariant.1 in (
+      seen u lists (holds_room s u lists refl slots held),
+      room_kept s.nodes u.nodes c.self.inside.spare c.self.inside.spare old
+          (omega (arith, len)) (omega (arith, len)) c.reserve.ensures.capacity,
+    )
 
 pub returns-in_err-reserve-clause-lists : goal.returns-in_err-reserve-clause-lists
 returns-in_err-reserve-clause-lists g c =
@@ -37,7 +40,8 @@ returns-in_err-reserve-clause-err g c =
     let u : Store T = record { nodes = c.reserve.new.self; ends = s.ends } in
     let held = held_by s lists (ap (λ (m : Lists T). m.lists) c.self.view_is) c.self.invariant.0 in
     let slots : u.nodes.slots ≡ s.nodes.slots = ap (λ (n : Slab (Node T)). n.slots) c.reserve.ensures.rest_kept in
-    on_err _ c.from_residual.result (same_view c.args.self.now (lists_of u) c.self.inside.spare (lists_of-held u lists (holds_room s u lists refl slots held)) (ap (λ (m : Lists T). m.spare) c.self.view_is))
+    on_err _ c.from_residual.result (same_view c.args.self.now (lists_of u) c.self.inside.spare
+    (lists_of-held u lists (holds_room s u lists refl slots held)) (ap (λ (m : Lists T). m.spare) c.self.view_is))
 
 pub invariant_of-self-2 : goal.invariant_of-self-2
 invariant_of-self-2 g c =

@@ -26,10 +26,13 @@ invariant_of-self g c =
     let held = held_by s lists (ap (λ (m : Lists T). m.lists) c.self.view_is) c.self.invariant.0 in
     let live = subst (IsLive lists) (sym c.node.view_is) c.requires in
     let after = set lists live.list (live.front ++ (key, c.args.value) ∷ live.back) in
-    let len = ap (λ (r : Store T). slab_len r.nodes) c.set_value.ensures.set ∙ slab_len-changed s.nodes key (λ (n : Node T). record n { value = c.args.value }) (live_has s lists key held live) in
+    let len = ap (λ (r : Store T). slab_len r.nodes) c.set_value.ensures.set
+    ∙ slab_len-changed s.nodes key (λ (n : Node T). record n { value = c.args.value }) (live_has s lists key held live) in
     let capacity = ap (λ (r : Store T). r.nodes.capacity) c.set_value.ensures.set in (
-      seen (store_of c.set_value.new.self) after (subst (λ (r : Store T). Holds r after) (sym c.set_value.ensures.set) (holds_set s lists live.list live.front key live.value c.args.value live.back held live.stands)),
-      room_kept s.nodes c.set_value.new.self.nodes c.self.inside.spare c.self.inside.spare c.self.invariant.1 (omega (arith, len)) (omega (arith, len)) (omega (arith, capacity)),
+      seen (store_of c.set_value.new.self) after (subst (λ (r : Store T). Holds r after) (sym c.set_value.ensures.set)
+          (holds_set s lists live.list live.front key live.value c.args.value live.back held live.stands)),
+      room_kept s.nodes c.set_value.new.self.nodes c.self.inside.spare c.self.inside.spare c.self.invariant.1 (omega (arith, len))
+          (omega (arith, len)) (omega (arith, capacity)),
     )
 
 pub returns-clause-old : goal.returns-clause-old
@@ -38,7 +41,8 @@ returns-clause-old g c = λ list front value back stands.
     let lists = c.args.self.now.lists in
     let s = store_of c.self.inside.links in
     let held = held_by s lists (ap (λ (m : Lists T). m.lists) c.self.view_is) c.self.invariant.0 in
-    let there = node_at s lists list front c.node.inside.key value back held.linked (subst (λ (k : ℕ). Stands lists list front k value back) (sym c.node.view_is) stands) in
+    let there = node_at s lists list front c.node.inside.key value back held.linked
+    (subst (λ (k : ℕ). Stands lists list front k value back) (sym c.node.view_is) stands) in
     sym (subst (λ (o : Option (Node T)). IfSome o (λ (n : Node T). n.value ≡ c.set_value.result)) there c.set_value.ensures.old)
 
 pub returns-clause-set : goal.returns-clause-set
@@ -50,5 +54,7 @@ returns-clause-set g c = λ list front value back stands.
     let held = held_by s lists (ap (λ (m : Lists T). m.lists) c.self.view_is) c.self.invariant.0 in
     let after = λ (k : ℕ). set lists list (front ++ (k, c.args.value) ∷ back) in
     lists_of-held (store_of c.set_value.new.self) (after key)
-    (subst (λ (r : Store T). Holds r (after key)) (sym c.set_value.ensures.set) (holds_set s lists list front key value c.args.value back held (subst (λ (k : ℕ). Stands lists list front k value back) (sym c.node.view_is) stands)))
+    (subst (λ (r : Store T). Holds r (after key)) (sym c.set_value.ensures.set)
+    (holds_set s lists list front key value c.args.value back held
+    (subst (λ (k : ℕ). Stands lists list front k value back) (sym c.node.view_is) stands)))
     ∙ ap after c.node.view_is

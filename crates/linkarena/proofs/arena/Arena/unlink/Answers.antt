@@ -19,7 +19,8 @@ remove-value-requires g c =
     let lists = c.args.self.now.lists in
     let s = store_of c.self.inside.links in
     let held = held_by s lists (ap (λ (m : Lists T). m.lists) c.self.view_is) c.self.invariant.0 in
-    taken_has s (store_of c.take_out.new.self) lists c.node.inside.key held (subst (IsLive lists) (sym c.node.view_is) c.requires) c.take_out.ensures
+    taken_has s (store_of c.take_out.new.self) lists c.node.inside.key held (subst (IsLive lists) (sym c.node.view_is) c.requires)
+    c.take_out.ensures
 
 pub overflow_add-self : goal.overflow_add-self
 overflow_add-self g c =
@@ -44,8 +45,11 @@ invariant_of-self g c =
     let held = held_by s lists (ap (λ (m : Lists T). m.lists) c.self.view_is) c.self.invariant.0 in
     let live = subst (IsLive lists) (sym c.node.view_is) c.requires in
     let same = same_taken s t lists c.node.inside.key held live c.take_out.ensures in (
-      seen u _ (unlinked s t u lists c.node.inside.key held c.take_out.ensures refl c.remove-value.ensures.updates c.remove-value.ensures.len live.list live.front live.value live.back live.stands),
-      room_kept s.nodes u.nodes c.self.inside.spare (c.self.inside.spare + 1) c.self.invariant.1 (omega (arith, same.len, c.remove-value.ensures.len)) (omega (arith, same.len, c.remove-value.ensures.len)) (omega (arith, same.capacity, c.remove-value.ensures.capacity)),
+      seen u _ (unlinked s t u lists c.node.inside.key held c.take_out.ensures refl c.remove-value.ensures.updates
+          c.remove-value.ensures.len live.list live.front live.value live.back live.stands),
+      room_kept s.nodes u.nodes c.self.inside.spare (c.self.inside.spare + 1) c.self.invariant.1
+          (omega (arith, same.len, c.remove-value.ensures.len)) (omega (arith, same.len, c.remove-value.ensures.len))
+          (omega (arith, same.capacity, c.remove-value.ensures.capacity)),
     )
 
 pub returns-clause-value : goal.returns-clause-value
@@ -55,7 +59,9 @@ returns-clause-value g c = λ list front value back stands.
     let s = store_of c.self.inside.links in
     let held = held_by s lists (ap (λ (m : Lists T). m.lists) c.self.view_is) c.self.invariant.0 in
     let live = subst (IsLive lists) (sym c.node.view_is) c.requires in
-    taken_value s (store_of c.take_out.new.self) lists c.node.inside.key c.remove-value.result held live c.take_out.ensures c.remove-value.ensures.value list front value back (subst (λ (k : ℕ). Stands lists list front k value back) (sym c.node.view_is) stands)
+    taken_value s (store_of c.take_out.new.self) lists c.node.inside.key c.remove-value.result held live c.take_out.ensures
+    c.remove-value.ensures.value list front value back
+    (subst (λ (k : ℕ). Stands lists list front k value back) (sym c.node.view_is) stands)
 
 pub returns-clause-out : goal.returns-clause-out
 returns-clause-out g c = λ list front value back stands.
@@ -65,4 +71,6 @@ returns-clause-out g c = λ list front value back stands.
     let t = store_of c.take_out.new.self in
     let u : Store T = record { nodes = c.remove-value.new.self; ends = t.ends } in
     let held = held_by s lists (ap (λ (m : Lists T). m.lists) c.self.view_is) c.self.invariant.0 in
-    lists_of-held u _ (unlinked s t u lists c.node.inside.key held c.take_out.ensures refl c.remove-value.ensures.updates c.remove-value.ensures.len list front value back (subst (λ (k : ℕ). Stands lists list front k value back) (sym c.node.view_is) stands))
+    lists_of-held u _ (unlinked s t u lists c.node.inside.key held c.take_out.ensures refl c.remove-value.ensures.updates
+    c.remove-value.ensures.len list front value back (subst (λ (k : ℕ). Stands lists list front k value back)
+    (sym c.node.view_is) stands))

@@ -4,7 +4,8 @@ use Rattle.textline.specs.Fields.{fields_in}
 use Rattle.textline.proofs.SplitLaws.{fields_some}
 use Rattle.textline.proofs.fields.Fields.is_end.Goals as goal
 
-ended : (rest : Option (Bor (List ℕ))) (b : Bool) (now : List (List ℕ)) → is_some rest ≡ not b → fields_in rest ≡ now → (IsTrue b → now ≡ []) × (now ≡ [] → IsTrue b)
+ended : (rest : Option (Bor (List ℕ))) (b : Bool) (now : List (List ℕ)) → is_some rest ≡ not b → fields_in rest ≡ now
+    → (IsTrue b → now ≡ []) × (now ≡ [] → IsTrue b)
 ended None true now e v = (λ _. sym v, λ _. refl)
 ended None false now e v = absurd (cc)
 ended (Some rest) true now e v = absurd (cc)

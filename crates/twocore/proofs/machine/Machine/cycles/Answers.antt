@@ -9,7 +9,8 @@ loop-left-preserved c =
     let one = ap (λ (m : Machine). m.done) c.cycle.ensures.machine in
     record {
       most = omega (arith, inv.most);
-      machine = c.cycle.ensures.machine ∙ cycle_turn c.args.n c.loop-left.left c.args.self.now.machine c.loop-left.self.machine (omega arith) inv.most inv.machine;
+      machine = c.cycle.ensures.machine ∙ cycle_turn c.args.n c.loop-left.left c.args.self.now.machine c.loop-left.self.machine
+          (omega arith) inv.most inv.machine;
       done = omega (arith, one, inv.done);
       room = omega (arith, inv.room, c.cycle.ensures.room);
     }
