@@ -55,6 +55,17 @@ impl Core {
         })
     }
 
+    /// Brings the core back to its start, with the image's data in its RAM.
+    pub fn restart(&mut self, image: &Image)
+        ensures { self.new ≡ at_start image.now }
+    {
+        self.pc = 0;
+        self.turning = None;
+        self.registers = no_registers();
+        clear(&mut self.ram);
+        put(&mut self.ram, image.data_at() as usize, image.init());
+    }
+
     /// The number of the next word.
     pub fn pc(&self) -> u32
         ensures { result ≡ self.now.pc }
@@ -169,6 +180,15 @@ fn zeros(alloc: Global, count: usize) -> Result<Vec<u8>, Memory>
     ensures size { IfOk result (λ bytes. length bytes.items ≡ count) }
 {
     Ok(vec![in alloc; 0u8; count]?)
+}
+
+/// Makes all bytes 0.
+#[tactic(auto, unfolding(crate::specs::Core::zeros))]
+fn clear(bytes: &mut [u8])
+    ensures value { bytes.new ≡ zeros (length bytes.old) }
+    ensures size { length bytes.new ≡ length bytes.old }
+{
+    bytes.fill(0);
 }
 
 #[tactic(auto, unfolding(crate::specs::Core::zeros))]
