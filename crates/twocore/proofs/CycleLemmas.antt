@@ -1,6 +1,9 @@
 -- So many cycles, and then more.
 use Rattle.std.proofs.Common.{◌≡◌, ℕ, zero, suc, ◌+◌, ◌-◌, ◌<◌, ◌≤◌, refl, sym, ap, ◌∙◌, arith}
-use Rattle.twocore.specs.Machine.{Machine, cycle, cycles}
+use Rattle.isa.specs.Image.{Contents}
+use Rattle.corestep.specs.declared.table.Table.{Table}
+use Rattle.hostscript.specs.declared.script.Script.{Script}
+use Rattle.twocore.specs.Machine.{Machine, cycle, cycles, at_start_of, restarted}
 
 pub cycles_done : (n : ℕ) (m : Machine) → (cycles n m).done ≡ m.done + n
 cycles_done zero m = omega arith
@@ -24,3 +27,12 @@ pub stretch_turn : (n left stretch : ℕ) (m now after : Machine) → stretch �
 stretch_turn n left stretch m now after some most is did =
     did ∙ ap (cycles stretch) is ∙ cycles_add stretch (n - left) m
     ∙ ap (λ (k : ℕ). cycles k m) (let e : stretch + (n - left) ≡ n - (left - stretch) = omega arith in e)
+
+-- cycles change nothing that a restart keeps
+restarted_after : (n : ℕ) (m : Machine) → restarted (cycles n m) ≡ restarted m
+restarted_after zero m = refl
+restarted_after (suc n) m = restarted_after n m
+
+pub started_again : (table : Table) (image0 image1 : Contents) (script : Script) (n : ℕ)
+    → restarted (cycles n (at_start_of table image0 image1 script)) ≡ at_start_of table image0 image1 script
+started_again table image0 image1 script n = restarted_after n (at_start_of table image0 image1 script)

@@ -8,6 +8,10 @@ use Rattle.std.proofs.lemmas.Bool.{cases_lt}
 use Rattle.std.proofs.lemmas.List.{length-set, drop-set-lt, take-append-drop, append-nil, take_more_set}
 use Rattle.twocore.specs.Memory.{put}
 
+pub put_size : (memory : List ℕ) (at : ℕ) (bytes : List ℕ) → length (put memory at bytes) ≡ length memory
+put_size memory at [] = refl
+put_size memory at (b ∷ bytes) = put_size (slice_set memory at b) (at + 1) bytes ∙ length-set memory at b
+
 pub put_out : (memory : List ℕ) (at : ℕ) (bytes : List ℕ) → length memory ≤ at → put memory at bytes ≡ memory
 put_out memory at [] h = refl
 put_out memory at (b ∷ bytes) h =

@@ -4,7 +4,6 @@ use Rattle.std.proofs.Common.{◌∷◌, ◌++◌, length, take, drop, map, repl
 use Rattle.std.proofs.Common.{length-append}
 use Rattle.std.specs.Prelude.{◌==◌, nat_lt, nat_le, slice_set, slice_index, slice_index_or, bit_or}
 use Rattle.std.specs.List.{AllByRecursion, flat_map, range_with_len}
-use Rattle.std.proofs.lemmas.List.{length-set}
 use Rattle.std.proofs.lemmas.List.FromFn.{length-map-range_with_len}
 use Rattle.prunum.specs.Width.{byte_count}
 use Rattle.prunum.specs.Bytes.{little_bytes}
@@ -40,6 +39,7 @@ use Rattle.twocore.specs.Memory.{spot_of, put, ram_byte, window_after, private_a
 use Rattle.twocore.specs.World.{Stage, byte_behind, bytes_in, controller_bytes, controller_after, stored_in}
 use Rattle.twocore.specs.World.{r31_of, led_out, all_led_out, pads_at, pads_with, pads_after}
 use Rattle.twocore.specs.Word.{filled, bytes_for, pads_for, input_for}
+use Rattle.twocore.proofs.PutLemmas.{put_size}
 
 abbrev pub AreWords : List ℕ → Type 0
 AreWords values = AllByRecursion (λ v. v < 2 ^ 32) values
@@ -71,10 +71,6 @@ module _ {X : Type 0} (P : X → Type 0) where
   all_index [] i d all h = h
   all_index (x ∷ xs) zero d all h = all.0
   all_index (x ∷ xs) (suc i) d all h = all_index xs i d all.1 h
-
-put_size : (memory : List ℕ) (at : ℕ) (bytes : List ℕ) → length (put memory at bytes) ≡ length memory
-put_size memory at [] = refl
-put_size memory at (b ∷ bytes) = put_size (slice_set memory at b) (at + 1) bytes ∙ length-set memory at b
 
 put_bytes : (memory : List ℕ) (at : ℕ) (bytes : List ℕ) → AreBytes memory → AreBytes bytes → AreBytes (put memory at bytes)
 put_bytes memory at [] old new = old

@@ -134,6 +134,17 @@ at_start_of table image0 image1 script = record {
   trace1 = [];
 }
 
+-- the machine with all but what was given as it is at the start
+abbrev pub restarted : Machine → Machine
+restarted m = record m {
+  done = 0;
+  zero = side_at_start m.setup0.image (starts_at_once 0 m.acts);
+  one = side_at_start m.setup1.image (starts_at_once 1 m.acts);
+  world = world_at_start;
+  trace0 = [];
+  trace1 = [];
+}
+
 -- ---- what it shows
 
 abbrev pub outcome_of : Machine → Outcome

@@ -9,7 +9,7 @@ ghost use Rattle.hostscript.specs.declared.script.Script.{Script};
 ghost use Rattle.twocore.specs.declared.setup.Setup.{Setup};
 ghost use Rattle.twocore.specs.declared.side.Side.{Side};
 ghost use Rattle.twocore.specs.Word.{access_at, waits, cycles_of};
-ghost use Rattle.twocore.specs.Machine.{M, Machine, cycles, at_start_of};
+ghost use Rattle.twocore.specs.Machine.{M, Machine, cycles, at_start_of, restarted};
 ghost use Rattle.twocore.specs.Stamps.{Ascends};
 ghost use Rattle.twocore.specs.Alone.{AreGiven, InEach, SparesZero, SparesOne, RunsAlone};
 
@@ -37,6 +37,12 @@ pub fn own_laws()
 pub fn stamp_laws()
     ensures { (table : Table) (image0 image1 : Contents) (script : Script) (n : ℕ)
         → Ascends (M table image0 image1 script n).trace0 × Ascends (M table image0 image1 script n).trace1 }
+{}
+
+/// After any number of cycles a restart brings back the machine at its start.
+pub fn restart_laws()
+    ensures { (table : Table) (image0 image1 : Contents) (script : Script) (n : ℕ)
+        → restarted (cycles n (at_start_of table image0 image1 script)) ≡ at_start_of table image0 image1 script }
 {}
 
 /// So many cycles, and then more, are all of them at once.

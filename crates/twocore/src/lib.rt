@@ -16,6 +16,6 @@ mod tests;
 mod turn;
 mod world;
 
-pub use laws::{alone_laws, cycle_laws, own_laws, stamp_laws};
+pub use laws::{alone_laws, cycle_laws, own_laws, restart_laws, stamp_laws};
 pub use machine::Machine;
 pub use outcome::{Outcome, Trace, View};

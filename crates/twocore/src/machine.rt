@@ -129,6 +129,22 @@ impl Machine {
         })
     }
 
+    /// Brings the machine back to its start. It takes no memory, and the room may only have grown.
+    pub fn restart(&mut self)
+        ensures machine { self.new.machine ≡ spec.restarted self.old.machine }
+        ensures room { self.old.room ≤ self.new.room }
+    {
+        let acts = self.acts.as_slice();
+        self.zero
+            .restart(&self.setup0.image, starts_at_once(0, acts));
+        self.one
+            .restart(&self.setup1.image, starts_at_once(1, acts));
+        self.world.restart();
+        self.trace0.clear();
+        self.trace1.clear();
+        self.done = 0;
+    }
+
     /// How many cycles are done.
     pub fn done(&self) -> u32
         ensures value { result ≡ self.now.machine.done }

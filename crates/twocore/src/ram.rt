@@ -9,18 +9,20 @@ use prunum::Memory;
 use std::alloc::Global;
 use std::marker::Model;
 
-/// The bytes of a memory.
+/// The bytes of a memory of a size.
 #[derive(Debug, Drop)]
-pub struct Ram {
+pub struct Ram<const SIZE: usize> {
     bytes: Vec<u8>,
 }
 
-impl Model for Ram {
-    ghost use Rattle.std.specs.Prelude.{List, ℕ};
+impl<const SIZE: usize> Model for Ram<SIZE> {
+    ghost use Rattle.std.specs.Prelude.{◌≡◌, List, ℕ, length};
 
     ghost Value = { List ℕ };
 
     ghost view = { λ a. a.bytes.items };
+
+    ghost invariant = { λ a. length a.bytes.items ≡ SIZE };
 }
 
 /// Writes bytes from a place on, where there is room for them.
@@ -33,7 +35,8 @@ pub fn write(list: &mut [u8], at: usize, bytes: &[u8])
 
 /// Writes bytes from a place on. Those that run out of the memory are lost.
 fn put(memory: &mut [u8], at: usize, bytes: &[u8])
-    ensures { memory.new ≡ spec.put memory.old at bytes.now }
+    ensures value { memory.new ≡ spec.put memory.old at bytes.now }
+    ensures size { length memory.new ≡ length memory.old }
 {
     if at < memory.len() {
         let room = memory.len() - at;
@@ -53,15 +56,37 @@ pub fn front(bytes: &[u8], most: usize) -> &[u8]
     }
 }
 
-impl Ram {
-    /// A memory of so many bytes 0.
-    #[tactic(auto, unfolding(corestep::specs::Core::zeros))]
-    pub fn new(alloc: Global, size: usize) -> Result<Ram, Memory>
-        ensures { IfOk result (λ ram. ram ≡ zeros size) }
+#[tactic(auto, unfolding(corestep::specs::Core::zeros))]
+fn zeros(alloc: Global, size: usize) -> Result<Vec<u8>, Memory>
+    ensures value { IfOk result (λ bytes. bytes.items ≡ zeros size) }
+    ensures size { IfOk result (λ bytes. length bytes.items ≡ size) }
+{
+    Ok(vec![in alloc; 0u8; size]?)
+}
+
+#[tactic(auto, unfolding(corestep::specs::Core::zeros))]
+fn clear(bytes: &mut [u8])
+    ensures value { bytes.new ≡ zeros (length bytes.old) }
+    ensures size { length bytes.new ≡ length bytes.old }
+{
+    bytes.fill(0);
+}
+
+impl<const SIZE: usize> Ram<SIZE> {
+    /// All bytes are 0.
+    pub fn new(alloc: Global) -> Result<Ram<SIZE>, Memory>
+        ensures { IfOk result (λ ram. ram ≡ zeros SIZE) }
     {
         Ok(Ram {
-            bytes: vec![in alloc; 0u8; size]?,
+            bytes: zeros(alloc, SIZE)?,
         })
+    }
+
+    /// Makes all bytes 0.
+    pub fn clear(&mut self)
+        ensures { self.new ≡ zeros SIZE }
+    {
+        clear(&mut self.bytes);
     }
 
     /// A byte, and 0 behind the end.

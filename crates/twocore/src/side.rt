@@ -22,7 +22,7 @@ pub struct Word {
 #[derive(Debug, Drop)]
 pub struct Side {
     pub core: Core,
-    pub window: Ram,
+    pub window: Ram<0x200>,
     pub started: bool,
     pub stop: Stop,
     pub word: Option<Word>,
@@ -39,13 +39,26 @@ impl Side {
     {
         Ok(Side {
             core: Core::new(alloc, image)?,
-            window: Ram::new(alloc, 0x200)?,
+            window: Ram::new(alloc)?,
             started,
             stop: Stop::Going,
             word: None,
             waited: 0,
             count: 0,
         })
+    }
+
+    /// Brings the core back to its start.
+    pub fn restart(&mut self, image: &Image, started: bool)
+        ensures { self.new ≡ side_at_start image.now started }
+    {
+        self.core.restart(image);
+        self.window.clear();
+        self.started = started;
+        self.stop = Stop::Going;
+        self.word = None;
+        self.waited = 0;
+        self.count = 0;
     }
 }
 

@@ -21,7 +21,7 @@ use prutrace::{Event, Place};
 const WINDOW: usize = 0x1e00;
 
 /// Bytes from a place of a data RAM on, as far as they reach the window.
-fn put_window(window: &mut Ram, at: u16, bytes: &[u8])
+fn put_window(window: &mut Ram<0x200>, at: u16, bytes: &[u8])
     ensures { window.new ≡ memory.put window.old (at - 0x1E00) (drop (0x1E00 - at) bytes.now) }
 {
     let at = usize::from(at);

@@ -10,8 +10,8 @@ use std::alloc::Global;
 /// What both cores share: the shared RAM, the memory outside, the interrupt controller, the scratchpad and the pins.
 #[derive(Debug, Drop)]
 pub struct World {
-    pub shared: Ram,
-    pub outside: Ram,
+    pub shared: Ram<0x3000>,
+    pub outside: Ram<0x1_0000>,
     pub intc: Intc,
     pub pads: Pads,
     pub pins: Pins,
@@ -26,11 +26,23 @@ impl World {
         ensures { IfOk result (λ world. world ≡ world_at_start) }
     {
         Ok(World {
-            shared: Ram::new(alloc, 0x3000)?,
-            outside: Ram::new(alloc, 0x1_0000)?,
+            shared: Ram::new(alloc)?,
+            outside: Ram::new(alloc)?,
             intc: Intc::new(),
             pads: Pads::new(),
             pins: Pins::new(),
         })
+    }
+
+    /// Makes all 0 again.
+    #[tactic(auto, unfolding(crate::specs::Machine::world_at_start))]
+    pub fn restart(&mut self)
+        ensures { self.new ≡ world_at_start }
+    {
+        self.shared.clear();
+        self.outside.clear();
+        self.intc = Intc::new();
+        self.pads = Pads::new();
+        self.pins = Pins::new();
     }
 }
