@@ -1,5 +1,5 @@
 -- A program has one layout, so one list of words, one length and one first long loop.
-use Rattle.std.proofs.Common.{◌≡◌, ℕ, ◌≤◌, List, Bool, Option, refl, ap, sym, ◌∙◌, subst, length}
+use Rattle.std.proofs.Common.{◌≡◌, ℕ, ◌≤◌, List, Bool, Option, ap, sym, ◌∙◌, subst, length}
 use Rattle.std.specs.Prelude.{option_map}
 use Rattle.isa.specs.declared.program.Item.{Item}
 use Rattle.isa.specs.Fitted.{Fitted}

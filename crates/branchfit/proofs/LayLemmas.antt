@@ -1,5 +1,5 @@
 -- What is laid and what is still to come is the whole, at each item.
-use Rattle.std.proofs.Common.{◌≡◌, ℕ, ◌+◌, ◌≤◌, ◌<◌, List, [], ◌∷◌, ◌++◌, length, Bool, refl, ap, sym, ◌∙◌, append_assoc, arith, zero, suc}
+use Rattle.std.proofs.Common.{◌≡◌, ℕ, ◌+◌, List, [], ◌∷◌, ◌++◌, ap, sym, ◌∙◌, append_assoc}
 use Rattle.std.specs.Prelude.{map}
 use Rattle.std.proofs.lemmas.List.{append-nil}
 use Rattle.isa.specs.declared.inst.Inst.{Inst}
@@ -13,10 +13,9 @@ use Rattle.isa.specs.declared.program.Target.{Target}
 use Rattle.isa.specs.Row.{word_of}
 use Rattle.isa.specs.Fitted.{Fitted}
 use Rattle.branchfit.specs.declared.laying.Laying.{Laying}
-use Rattle.branchfit.specs.declared.spot.Spot.{Spot}
 use Rattle.branchfit.specs.Aims.{reach_of}
 use Rattle.branchfit.specs.Far.{width}
-use Rattle.branchfit.specs.Laid.{Layout, aimed, noted, number_at, is_far_at, refs_aimed, words_at, notes_at, refs_at, lines_at, words_from, notes_from, refs_from, lines_from, place_behind, pending_behind}
+use Rattle.branchfit.specs.Laid.{Layout, aimed, noted, number_at, is_far_at, refs_aimed, words_at, notes_at, refs_at, lines_at, words_from, notes_from, refs_from, lines_from, place_behind}
 use Rattle.branchfit.specs.Laying.{Lays, laid_behind}
 
 made : (w v : List ℕ) (n m : List Note) (r q : List Ref) (l k : List Line) → w ≡ v → n ≡ m → r ≡ q → l ≡ k

@@ -3,7 +3,7 @@ use Rattle.std.specs.Prelude.{◌≡◌, ℕ, ◌<◌, ◌≤◌, ◌-◌, ◌^�
 use Rattle.isa.specs.declared.program.Item.{Item}
 use Rattle.isa.specs.Fitted.{Fitted}
 use Rattle.branchfit.specs.Aims.{spots_of}
-use Rattle.branchfit.specs.Far.{AreFar, numbers_of, number_in}
+use Rattle.branchfit.specs.Far.{AreFar, numbers_of}
 use Rattle.branchfit.specs.Laid.{Layout, number_at, laid}
 
 -- the places of the items, with the far ones among them and their numbers

@@ -1,10 +1,8 @@
 -- LOOPs whose bodies a word can't tell.
-use Rattle.std.specs.Prelude.{◌≡◌, ℕ, suc, ◌+◌, nat_lt, Bool, true, false, ◌||◌, if◌then◌else◌, Option, Some, None, option_map, List, [], ◌∷◌}
-use Rattle.isa.specs.declared.inst.Inst.{Inst}
+use Rattle.std.specs.Prelude.{◌≡◌, ℕ, suc, ◌+◌, nat_lt, Bool, false, ◌||◌, if◌then◌else◌, Option, Some, None, option_map, List, [], ◌∷◌}
 use Rattle.isa.specs.declared.inst.Inst.TheVariants as inst
 use Rattle.isa.specs.declared.program.Item.{Item}
 use Rattle.isa.specs.declared.program.Item.TheVariants as item
-use Rattle.isa.specs.declared.program.Target.{Target}
 use Rattle.branchfit.specs.Laid.{Layout, number_at, there_at, place_behind}
 use Rattle.branchfit.specs.Fits.{IsLayout, named}
 

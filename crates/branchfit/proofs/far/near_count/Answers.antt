@@ -1,5 +1,5 @@
 -- Each turn counts one place.
-use Rattle.std.proofs.Common.{ap, ◌∙◌, arith, length}
+use Rattle.std.proofs.Common.{ap, arith, length}
 use Rattle.std.proofs.lemmas.List.{nil_from_length}
 use Rattle.branchfit.proofs.StepLemmas.{near_on, near_end}
 use Rattle.branchfit.proofs.far.near_count.Goals as goal
