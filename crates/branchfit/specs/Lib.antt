@@ -1,0 +1,10 @@
+pub mod Aims
+pub mod Far
+pub mod Faults
+pub mod Fits
+pub mod Laid
+pub mod Laying
+pub mod Loops
+pub mod Places
+pub mod Ranges
+pub mod Steps
