@@ -5,7 +5,9 @@ use Rattle.isa.specs.declared.inst.Inst.{Inst}
 use Rattle.isa.specs.Image.{Contents}
 use Rattle.corestep.specs.declared.onward.Turning.{Turning}
 use Rattle.corestep.specs.declared.table.Table.{Table}
-use Rattle.corerun.specs.Solo.{Alone}
+use Rattle.behaviour.specs.Machine.{Reaches}
+use Rattle.behaviour.proofs.MachineLemmas.{reaches-refl, reaches-trans, reaches-step}
+use Rattle.corerun.specs.Solo.{Alone, alone_step}
 use Rattle.corepath.specs.Flow.{Calls}
 use Rattle.corepath.specs.Loops.{Loop}
 use Rattle.corepath.specs.Path.{Path, begin as path_begin, step as path_step, call as path_call, own_cost, Ends}
@@ -108,3 +110,18 @@ whole table image region loops from cycles p =
       left = p.left;
       sum_is = let a = h.cycles in let b = own_cycles table p.last.core p.inst p.own in let d = p.cycles_are in omega (arith, a, b, d);
     }
+
+-- a pass is a part of the run
+pub runs : (table : Table) (image : Contents) (region : ℕ) (loops : List Loop) (from : Alone) (calls : List Open) (e began : ℕ)
+    (t : Option Turning) (k : Loop → ℕ) (c : ℕ) (now : Alone)
+    → Passing table image region loops from calls e began t k c now → Reaches (alone_step image) from now
+runs table image region loops from _ _ _ _ _ _ _ (begin k none) = reaches-refl (alone_step image) from
+runs table image region loops from _ _ _ _ _ _ _ (word calls e began c t after k j now next so did plain behind counts) =
+    reaches-trans (alone_step image) from now next (runs table image region loops from calls e began t k c now so)
+    (reaches-step (alone_step image) now next did.done)
+runs table image region loops from _ _ _ _ _ _ _ (call calls e began c f k j now next so did is stays none) =
+    reaches-trans (alone_step image) from now next (runs table image region loops from calls e began None k c now so)
+    (reaches-step (alone_step image) now next did.done)
+runs table image region loops from _ _ _ _ _ _ _ (return calls caller f began c k j now next so did jumps noted to stays left counts) =
+    reaches-trans (alone_step image) from now next (runs table image region loops from (caller ∷ calls) f began None k c now so)
+    (reaches-step (alone_step image) now next did.done)
