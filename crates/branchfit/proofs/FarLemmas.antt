@@ -1,11 +1,13 @@
 -- A larger set sets all instructions further apart, so that what goes too far goes too far with it; and how the least set is found.
-use Rattle.std.proofs.Common.{◌≡◌, ℕ, zero, suc, ◌+◌, ◌-◌, ◌<◌, ◌≤◌, List, [], ◌∷◌, length, replicate, Bool, true, false, Option, Some, None, refl, ap, sym, ◌∙◌, subst, arith}
+use Rattle.std.proofs.Common.{◌≡◌, ℕ, zero, suc, ◌+◌, ◌-◌, ◌<◌, ◌≤◌, List, [], ◌∷◌, length, replicate, Bool, true, false, Option, Some}
+use Rattle.std.proofs.Common.{None, refl, ap, sym, ◌∙◌, subst, arith}
 use Rattle.std.specs.Prelude.{◌&&◌, ◌||◌, min, nat_lt, IsTrue, slice_index}
 use Rattle.std.proofs.lemmas.Bool.Decides.{nat_tests}
 use Rattle.branchfit.specs.declared.spot.Reach.{Reach}
 use Rattle.branchfit.specs.declared.spot.Reach.TheVariants.{Anywhere, Always, Conditional}
 use Rattle.branchfit.specs.declared.spot.Spot.{Spot}
-use Rattle.branchfit.specs.Far.{width, first, others, numbers_from, numbers_of, number_in, is_beyond, is_branch, aims_beyond, is_out, HasAllOut, IsClosed, IsWithin, AreFar}
+use Rattle.branchfit.specs.Far.{width, first, others, numbers_from, numbers_of, number_in, is_beyond, is_branch, aims_beyond, is_out}
+use Rattle.branchfit.specs.Far.{HasAllOut, IsClosed, IsWithin, AreFar}
 use Rattle.branchfit.specs.Steps.{grown_from, grown, one_near, near_count}
 
 -- ---- numbers
@@ -21,7 +23,8 @@ unfolding numbers_from
 length-numbers here [] far = refl
 length-numbers here (s ∷ spots) far = omega (arith, length-numbers (here + width s.reach (first far)) spots (others far))
 
-indexed : (here : ℕ) (spots : List Spot) (far : List Bool) (p : ℕ) → p ≤ length spots → slice_index (numbers_from here spots far) p ≡ here + num spots far p
+indexed : (here : ℕ) (spots : List Spot) (far : List Bool) (p : ℕ) → p ≤ length spots → slice_index (numbers_from here spots far) p
+    ≡ here + num spots far p
 unfolding numbers_from num
 indexed here [] far zero h = omega arith
 indexed here [] far (suc p) h = absurd (omega arith)
@@ -34,7 +37,8 @@ past [] far p h = refl
 past (s ∷ spots) far zero h = absurd (omega arith)
 past (s ∷ spots) far (suc p) h = ap (λ n. width s.reach (first far) + n) (past spots (others far) p (omega arith))
 
-clamped : (spots : List Spot) (far : List Bool) (p q : ℕ) → (p ≤ length spots → q ≡ p) → (length spots ≤ p → q ≡ length spots) → num spots far q ≡ num spots far p
+clamped : (spots : List Spot) (far : List Bool) (p q : ℕ) → (p ≤ length spots → q ≡ p) → (length spots ≤ p → q ≡ length spots)
+    → num spots far q ≡ num spots far p
 clamped spots far p q low high = side (nat_lt p (length spots)) refl
   where
     side : (b : Bool) → nat_lt p (length spots) ≡ b → num spots far q ≡ num spots far p
@@ -97,7 +101,12 @@ unfolding num
 grows [] far larger q w = omega arith
 grows (s ∷ spots) far larger zero w = omega arith
 grows (s ∷ spots) far larger (suc q) w =
-    omega (arith, wider s.reach (first far) (first larger) (firsts far larger w), grows spots (others far) (others larger) q (rests far larger w))
+    omega (
+      arith,
+      wider s.reach (first far) (first larger) (firsts far larger w),
+      grows spots (others far) (others larger) q
+          (rests far larger w),
+    )
 
 apart : (spots : List Spot) (far larger : List Bool) (p q : ℕ) → IsWithin far larger → p ≤ q
     → num spots far q + num spots larger p ≤ num spots larger q + num spots far p
@@ -105,7 +114,8 @@ unfolding num
 apart [] far larger p q w h = omega arith
 apart (s ∷ spots) far larger zero q w h = omega (arith, grows (s ∷ spots) far larger q w)
 apart (s ∷ spots) far larger (suc p) zero w h = absurd (omega arith)
-apart (s ∷ spots) far larger (suc p) (suc q) w h = omega (arith, apart spots (others far) (others larger) p q (rests far larger w) (omega arith))
+apart (s ∷ spots) far larger (suc p) (suc q) w h =
+    omega (arith, apart spots (others far) (others larger) p q (rests far larger w) (omega arith))
 
 ahead : (a b c d : ℕ) → a ≤ b → b + c ≤ d + a → IsTrue (is_beyond a b) → IsTrue (is_beyond c d)
 ahead a b c d order spread h = grind (arith, nat_tests)
@@ -120,26 +130,33 @@ beyond spots far larger p q w h = side (nat_lt q p) refl
     side : (b : Bool) → nat_lt q p ≡ b → IsTrue (is_beyond (num spots larger p) (num spots larger q))
     side true e =
         let order : q ≤ p = grind (arith, nat_tests) in
-        back (num spots far p) (num spots far q) (num spots larger p) (num spots larger q) (rises spots far q p order) (apart spots far larger q p w order) h
+        back (num spots far p) (num spots far q) (num spots larger p) (num spots larger q) (rises spots far q p order)
+        (apart spots far larger q p w order) h
     side false e =
         let order : p ≤ q = grind (arith, nat_tests) in
-        ahead (num spots far p) (num spots far q) (num spots larger p) (num spots larger q) (rises spots far p q order) (apart spots far larger p q w order) h
+        ahead (num spots far p) (num spots far q) (num spots larger p) (num spots larger q) (rises spots far p q order)
+        (apart spots far larger p q w order) h
 
 aims_grow : (spots : List Spot) (far larger : List Bool) (p : ℕ) (aim : Option ℕ) → IsWithin far larger
     → IsTrue (aims_beyond (numbers_of spots far) p aim) → IsTrue (aims_beyond (numbers_of spots larger) p aim)
 aims_grow spots far larger p None w h = h
 aims_grow spots far larger p (Some q) w h =
-    let here : is_beyond (num spots far p) (num spots far q) ≡ is_beyond (number_in (numbers_of spots far) p) (number_in (numbers_of spots far) q) =
-    sym (ap (λ n. is_beyond n (number_in (numbers_of spots far) q)) (number_is spots far p) ∙ ap (is_beyond (num spots far p)) (number_is spots far q)) in
-    let there : is_beyond (number_in (numbers_of spots larger) p) (number_in (numbers_of spots larger) q) ≡ is_beyond (num spots larger p) (num spots larger q) =
-    ap (λ n. is_beyond n (number_in (numbers_of spots larger) q)) (number_is spots larger p) ∙ ap (is_beyond (num spots larger p)) (number_is spots larger q) in
+    let here : is_beyond (num spots far p) (num spots far q) ≡ is_beyond (number_in (numbers_of spots far) p)
+    (number_in (numbers_of spots far) q) =
+    sym (ap (λ n. is_beyond n (number_in (numbers_of spots far) q)) (number_is spots far p) ∙ ap (is_beyond (num spots far p))
+    (number_is spots far q)) in
+    let there : is_beyond (number_in (numbers_of spots larger) p) (number_in (numbers_of spots larger) q) ≡ is_beyond (num spots larger p)
+    (num spots larger q) =
+    ap (λ n. is_beyond n (number_in (numbers_of spots larger) q)) (number_is spots larger p) ∙ ap (is_beyond (num spots larger p))
+    (number_is spots larger q) in
     there ∙ beyond spots far larger p q w (here ∙ h)
 
 outs_grow : (spots : List Spot) (far larger : List Bool) → IsWithin far larger
     → (p : ℕ) (s : Spot) → IsTrue (is_out (numbers_of spots far) p s) → IsTrue (is_out (numbers_of spots larger) p s)
 outs_grow spots far larger w p s h = side (is_branch s.reach) h
   where
-    side : (b : Bool) → IsTrue (b && aims_beyond (numbers_of spots far) p s.aim) → IsTrue (b && aims_beyond (numbers_of spots larger) p s.aim)
+    side : (b : Bool) → IsTrue (b && aims_beyond (numbers_of spots far) p s.aim)
+        → IsTrue (b && aims_beyond (numbers_of spots larger) p s.aim)
     side true e = aims_grow spots far larger p s.aim w e
     side false e = e
 
@@ -192,14 +209,16 @@ pub goes_on : (spots : List Spot) (far more : List Bool) → IsReached spots far
 goes_on spots far more reached e = record {
   size = ap length e ∙ length-grown (numbers_of spots far) 0 spots far;
   below = λ larger closed. let P : List Bool → Type 0 = λ f. IsWithin f larger in
-      subst P (sym e) (grown_within (numbers_of spots far) (numbers_of spots larger) 0 spots far larger (outs_grow spots far larger (reached.below larger closed)) closed (reached.below larger closed));
+      subst P (sym e) (grown_within (numbers_of spots far) (numbers_of spots larger) 0 spots far larger
+      (outs_grow spots far larger (reached.below larger closed)) closed (reached.below larger closed));
 }
 
 in_already : (f o : Bool) → (f || o) ≡ f → IsTrue o → IsTrue f
 in_already true o e h = refl
 in_already false o e h = sym e ∙ h
 
-closed_at : (numbers : List ℕ) (p : ℕ) (spots : List Spot) (far : List Bool) → grown_from numbers p spots far ≡ far → HasAllOut numbers p spots far
+closed_at : (numbers : List ℕ) (p : ℕ) (spots : List Spot) (far : List Bool) → grown_from numbers p spots far ≡ far
+    → HasAllOut numbers p spots far
 unfolding grown_from
 closed_at numbers p [] [] e = tt
 closed_at numbers p [] (f ∷ far) e = cc
@@ -216,7 +235,8 @@ less_near true o = omega arith
 less_near false true = omega arith
 less_near false false = omega arith
 
-near_less : (numbers : List ℕ) (p : ℕ) (spots : List Spot) (far : List Bool) → length far ≡ length spots → near_count (grown_from numbers p spots far) ≤ near_count far
+near_less : (numbers : List ℕ) (p : ℕ) (spots : List Spot) (far : List Bool) → length far ≡ length spots
+    → near_count (grown_from numbers p spots far) ≤ near_count far
 unfolding grown_from near_count
 near_less numbers p [] far h = omega arith
 near_less numbers p (s ∷ spots) [] h = absurd (omega arith)
@@ -236,13 +256,15 @@ near_same numbers p [] (f ∷ far) h e = absurd (omega arith)
 near_same numbers p (s ∷ spots) [] h e = absurd (omega arith)
 near_same numbers p (s ∷ spots) (f ∷ far) h e =
     let size : length far ≡ length spots = omega arith in
-    let both = same_near f (is_out numbers p s) (near_count (grown_from numbers (p + 1) spots far)) (near_count far) (near_less numbers (p + 1) spots far size) e in
+    let both = same_near f (is_out numbers p s) (near_count (grown_from numbers (p + 1) spots far)) (near_count far)
+    (near_less numbers (p + 1) spots far size) e in
     let tail = near_same numbers (p + 1) spots far size both.1 in
     let head = both.0 in
     cc
 
 -- no more are near than before; and where as many are, the set is closed
-pub falls : (spots : List Spot) (far more : List Bool) → IsReached spots far → more ≡ grown spots far → (near_count more ≡ near_count far → ⊥)
+pub falls : (spots : List Spot) (far more : List Bool) → IsReached spots far → more ≡ grown spots far
+    → (near_count more ≡ near_count far → ⊥)
     → near_count more < near_count far
 falls spots far more reached e other =
     let le : near_count more ≤ near_count far = rw e (near_less (numbers_of spots far) 0 spots far reached.size) in
@@ -251,7 +273,8 @@ falls spots far more reached e other =
     below : (a b : ℕ) → a ≤ b → (a ≡ b → ⊥) → a < b
     below a b le ne = omega arith
 
-pub ends : (spots : List Spot) (far more : List Bool) → IsReached spots far → more ≡ grown spots far → near_count more ≡ near_count far → AreFar spots far
+pub ends : (spots : List Spot) (far more : List Bool) → IsReached spots far → more ≡ grown spots far → near_count more ≡ near_count far
+    → AreFar spots far
 ends spots far more reached e same =
     let as_near : near_count far ≤ near_count (grown spots far) = omega (arith, ap near_count e) in
     record {

@@ -31,9 +31,11 @@ one_length items n m x y =
 
 pub one_loop : (items : List Item) (this that : Option ℕ) → IsLongLoop items this → IsLongLoop items that → this ≡ that
 one_loop items this that x y =
-    x.first ∙ ap (λ (l : Layout). option_map named (first_long l 0 items)) (one_layout items x.layout y.layout x.places y.places) ∙ sym y.first
+    x.first ∙ ap (λ (l : Layout). option_map named (first_long l 0 items)) (one_layout items x.layout y.layout x.places y.places) ∙ sym
+    y.first
 
-pub small_everywhere : (items : List Item) (layout : Layout) (most : ℕ) → IsLayout items layout → number_at layout (length layout.spots) ≤ most
+pub small_everywhere : (items : List Item) (layout : Layout) (most : ℕ) → IsLayout items layout → number_at layout (length layout.spots) ≤
+    most
     → (p : ℕ) → number_at layout p ≤ most
 small_everywhere items layout most places h p =
     let P : List ℕ → Type 0 = λ ns. number_in ns (length layout.spots) ≤ most in

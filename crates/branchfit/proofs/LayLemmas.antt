@@ -15,7 +15,8 @@ use Rattle.isa.specs.Fitted.{Fitted}
 use Rattle.branchfit.specs.declared.laying.Laying.{Laying}
 use Rattle.branchfit.specs.Aims.{reach_of}
 use Rattle.branchfit.specs.Far.{width}
-use Rattle.branchfit.specs.Laid.{Layout, aimed, noted, number_at, is_far_at, refs_aimed, words_at, notes_at, refs_at, lines_at, words_from, notes_from, refs_from, lines_from, place_behind}
+use Rattle.branchfit.specs.Laid.{Layout, aimed, noted, number_at, is_far_at, refs_aimed, words_at, notes_at, refs_at, lines_at, words_from}
+use Rattle.branchfit.specs.Laid.{notes_from, refs_from, lines_from, place_behind}
 use Rattle.branchfit.specs.Laying.{Lays, laid_behind}
 
 made : (w v : List ℕ) (n m : List Note) (r q : List Ref) (l k : List Line) → w ≡ v → n ≡ m → r ≡ q → l ≡ k
@@ -34,8 +35,10 @@ laid_on layout item old new rest lays =
     (joined new.words.items old.words.items _ (words_from layout new.place rest) lays.words
     ∙ ap (λ p. old.words.items ++ (words_at layout old.place item ++ words_from layout p rest)) lays.place)
     (joined new.notes.items old.notes.items _ (notes_from layout new.place new.pending.items rest) lays.notes
-    ∙ ap (λ p. old.notes.items ++ (notes_at layout old.place old.pending.items item ++ notes_from layout p new.pending.items rest)) lays.place
-    ∙ ap (λ ns. old.notes.items ++ (notes_at layout old.place old.pending.items item ++ notes_from layout (place_behind old.place item) ns rest)) lays.pending)
+    ∙ ap (λ p. old.notes.items ++ (notes_at layout old.place old.pending.items item ++ notes_from layout p new.pending.items rest))
+    lays.place
+    ∙ ap (λ ns. old.notes.items ++ (notes_at layout old.place old.pending.items item ++ notes_from layout (place_behind old.place item) ns
+    rest)) lays.pending)
     (joined new.refs.items old.refs.items _ (refs_from layout new.place rest) lays.refs
     ∙ ap (λ p. old.refs.items ++ (refs_at layout old.place item ++ refs_from layout p rest)) lays.place)
     (joined new.lines.items old.lines.items _ (lines_from layout new.place rest) lays.lines
@@ -44,7 +47,8 @@ laid_on layout item old new rest lays =
 pub laid_all : (layout : Layout) (s : Laying)
     → laid_behind layout s [] ≡ record { words = s.words.items; notes = s.notes.items; refs = s.refs.items; lines = s.lines.items }
 unfolding words_from notes_from refs_from lines_from
-laid_all layout s = made _ _ _ _ _ _ _ _ (append-nil s.words.items) (append-nil s.notes.items) (append-nil s.refs.items) (append-nil s.lines.items)
+laid_all layout s = made _ _ _ _ _ _ _ _ (append-nil s.words.items) (append-nil s.notes.items) (append-nil s.refs.items)
+    (append-nil s.lines.items)
 
 -- ---- items, one by one
 
@@ -60,7 +64,8 @@ module _ (layout : Layout) (old new : Laying) where
   }
 
   pub lays_source : (n : ℕ) → new.words.items ≡ old.words.items → new.notes.items ≡ old.notes.items → new.refs.items ≡ old.refs.items
-      → new.lines.items ≡ old.lines.items ++ lines_at layout old.place (item.Source n) → new.pending.items ≡ old.pending.items → new.place ≡ old.place
+      → new.lines.items ≡ old.lines.items ++ lines_at layout old.place (item.Source n) → new.pending.items ≡ old.pending.items → new.place
+      ≡ old.place
       → Lays layout (item.Source n) old new
   lays_source n w m r l p q = record {
     words = w ∙ sym (append-nil old.words.items);
@@ -71,8 +76,14 @@ module _ (layout : Layout) (old new : Laying) where
     place = q;
   }
 
-  pub lays_note : (kind : NoteKind) (value : ℕ) → new.words.items ≡ old.words.items → new.notes.items ≡ old.notes.items → new.refs.items ≡ old.refs.items
-      → new.lines.items ≡ old.lines.items → new.pending.items ≡ old.pending.items ++ record { word = 0; kind = kind; value = value } ∷ [] → new.place ≡ old.place
+  pub lays_note : (kind : NoteKind) (value : ℕ) → new.words.items ≡ old.words.items → new.notes.items ≡ old.notes.items → new.refs.items
+      ≡ old.refs.items
+      → new.lines.items ≡ old.lines.items → new.pending.items ≡ old.pending.items ++ record {
+        word = 0;
+        kind = kind;
+        value =
+            value;
+      } ∷ [] → new.place ≡ old.place
       → Lays layout (item.Note kind value) old new
   lays_note kind value w m r l p q = record {
     words = w ∙ sym (append-nil old.words.items);
@@ -96,8 +107,10 @@ module _ (layout : Layout) (old new : Laying) where
     place = q;
   }
 
-  pub lays_aimed : (i : Inst) (t : Target) (made : List Inst) (wide : ℕ) → new.words.items ≡ old.words.items ++ map word_of made → aimed layout old.place i t ≡ made
-      → new.notes.items ≡ old.notes.items ++ noted (number_at layout old.place) wide old.pending.items → wide ≡ width (reach_of i) (is_far_at layout old.place)
+  pub lays_aimed : (i : Inst) (t : Target) (made : List Inst) (wide : ℕ) → new.words.items ≡ old.words.items ++ map word_of made
+      → aimed layout old.place i t ≡ made
+      → new.notes.items ≡ old.notes.items ++ noted (number_at layout old.place) wide old.pending.items → wide
+      ≡ width (reach_of i) (is_far_at layout old.place)
       → new.refs.items ≡ old.refs.items ++ refs_aimed (number_at layout old.place) t
       → new.lines.items ≡ old.lines.items → new.pending.items ≡ [] → new.place ≡ old.place + 1
       → Lays layout (item.Aimed i t) old new

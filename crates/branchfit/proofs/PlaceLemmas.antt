@@ -32,7 +32,8 @@ knows_begin items places none = record {
     nowhere : (l : ℕ) → found places l ≡ None
     nowhere l = rw none refl
 
-pub knows_end : (items : List Item) (p : ℕ) (rest : List Item) (places : BTreeMap ℕ ℕ) → KnowsTo items p rest places → rest ≡ [] → Knows items places
+pub knows_end : (items : List Item) (p : ℕ) (rest : List Item) (places : BTreeMap ℕ ℕ) → KnowsTo items p rest places → rest ≡ []
+    → Knows items places
 knows_end items p rest places known at l =
     sym (nothing (found places l)) ∙ sym (ap (λ r. or_else (found places l) (option_map (λ k. p + k) (place_in r l))) at) ∙ known.each l
   where
@@ -41,7 +42,8 @@ knows_end items p rest places known at l =
     nothing (Some k) = refl
 
 pub knows_skip : (items : List Item) (p : ℕ) (rest : List Item) (places : BTreeMap ℕ ℕ) (i : Item) (behind : List Item)
-    → KnowsTo items p rest places → rest ≡ i ∷ behind → ((l : ℕ) → place_in (i ∷ behind) l ≡ place_in behind l) → KnowsTo items p behind places
+    → KnowsTo items p rest places → rest ≡ i ∷ behind → ((l : ℕ) → place_in (i ∷ behind) l ≡ place_in behind l) → KnowsTo items p behind
+    places
 knows_skip items p rest places i behind known at skips = record {
   each = λ l. ap (λ o. or_else (found places l) (option_map (λ k. p + k) o)) (sym (skips l))
       ∙ sym (ap (λ r. or_else (found places l) (option_map (λ k. p + k) (place_in r l))) at) ∙ known.each l;
@@ -71,12 +73,14 @@ knows_label items p rest old new m behind known at put = record {
 }
   where
     side : (o : Option ℕ) (b : Bool) (q : Option ℕ)
-        → or_else (or_else o (if b then Some p else None)) (option_map (λ k. p + k) q) ≡ or_else o (option_map (λ k. p + k) (if b then Some 0 else q))
+        → or_else (or_else o (if b then Some p else None)) (option_map (λ k. p + k) q)
+        ≡ or_else o (option_map (λ k. p + k) (if b then Some 0 else q))
     side (Some k) b q = refl
     side None true q = let e : p ≡ p + 0 = omega arith in ap Some e
     side None false q = refl
 
-pub knows_on : (items : List Item) (p : ℕ) (rest : List Item) (old new : BTreeMap ℕ ℕ) (i : Item) (behind : List Item) → KnowsTo items p rest old
+pub knows_on : (items : List Item) (p : ℕ) (rest : List Item) (old new : BTreeMap ℕ ℕ) (i : Item) (behind : List Item)
+    → KnowsTo items p rest old
     → rest ≡ i ∷ behind → ((l : ℕ) → found new l ≡ found_behind old p i l) → KnowsTo items (place_behind p i) behind new
 knows_on items p rest old new (item.Label m) behind known at put = knows_label items p rest old new m behind known at put
 knows_on items p rest old new (item.Note kind value) behind known at put =
@@ -88,7 +92,8 @@ knows_on items p rest old new (item.Whole i) behind known at put =
 knows_on items p rest old new (item.Aimed i t) behind known at put =
     as_before items (p + 1) behind old new put (knows_word items p rest old (item.Aimed i t) behind known at (λ l. refl))
 
-pub knows_next : (items : List Item) (p q : ℕ) (rest : List Item) (old new : BTreeMap ℕ ℕ) (i : Item) (behind : List Item) → KnowsTo items p rest old
+pub knows_next : (items : List Item) (p q : ℕ) (rest : List Item) (old new : BTreeMap ℕ ℕ) (i : Item) (behind : List Item)
+    → KnowsTo items p rest old
     → rest ≡ i ∷ behind → ((l : ℕ) → found new l ≡ found_behind old p i l) → q ≡ place_behind p i → KnowsTo items q behind new
 knows_next items p q rest old new i behind known at put next =
     let P : ℕ → Type 0 = λ n. KnowsTo items n behind new in
@@ -114,7 +119,9 @@ same_all f g same (i ∷ items) = put (f i) (g i) (same i) (same_all f g same it
     put : (a b : Option Spot) → a ≡ b → filter_map f items ≡ filter_map g items → filter_map f (i ∷ items) ≡ filter_map g (i ∷ items)
     put a b e rest = rw (same i, rest)
 
-pub spots_are : (items : List Item) (places : BTreeMap ℕ ℕ) (spots : List Spot) → Knows items places → spots ≡ filter_map (spot_of (found places)) items
+pub spots_are : (items : List Item) (places : BTreeMap ℕ ℕ) (spots : List Spot) → Knows items places → spots
+    ≡ filter_map (spot_of (found places)) items
     → spots ≡ spots_of items
 unfolding spots_of
-spots_are items places spots known e = e ∙ same_all (spot_of (found places)) (spot_of (place_in items)) (same_spot (found places) (place_in items) known) items
+spots_are items places spots known e =
+    e ∙ same_all (spot_of (found places)) (spot_of (place_in items)) (same_spot (found places) (place_in items) known) items

@@ -1,5 +1,6 @@
 -- What is done and what is left are the whole, at each turn of a loop.
-use Rattle.std.proofs.Common.{◌≡◌, ℕ, suc, ◌+◌, ◌≤◌, List, [], ◌∷◌, ◌++◌, length, Bool, true, false, Option, Some, None, refl, ap, sym, ◌∙◌, append_assoc, arith}
+use Rattle.std.proofs.Common.{◌≡◌, ℕ, suc, ◌+◌, ◌≤◌, List, [], ◌∷◌, ◌++◌, length, Bool, true, false, Option, Some, None, refl, ap, sym, ◌∙◌}
+use Rattle.std.proofs.Common.{append_assoc, arith}
 use Rattle.std.specs.Prelude.{◌||◌, ◌==◌, map, option_map, if◌then◌else◌}
 use Rattle.std.proofs.lemmas.List.{append-nil}
 use Rattle.isa.specs.declared.note.Note.{Note}
@@ -16,7 +17,8 @@ module _ {X : Type 0} where
   one_more : (done more : List X) (x : X) (left : List X) → more ≡ done ++ x ∷ [] → more ++ left ≡ done ++ (x ∷ left)
   one_more done more x left e = ap (λ xs. xs ++ left) e ∙ append_assoc done (x ∷ []) left
 
-pub numbers_on : (done more : List ℕ) (here w : ℕ) (rest : List Spot) (tests later : List Bool) (s : Spot) (behind : List Spot) (whole : List ℕ)
+pub numbers_on : (done more : List ℕ) (here w : ℕ) (rest : List Spot) (tests later : List Bool) (s : Spot) (behind : List Spot)
+    (whole : List ℕ)
     → done ++ numbers_from here rest tests ≡ whole → rest ≡ s ∷ behind → more ≡ done ++ here ∷ []
     → w ≡ width s.reach (first tests) → later ≡ others tests → more ++ numbers_from (here + w) behind later ≡ whole
 unfolding numbers_from
@@ -31,7 +33,8 @@ pub numbers_end : (done more : List ℕ) (here : ℕ) (rest : List Spot) (tests 
 unfolding numbers_from
 numbers_end done more here rest tests whole e at pushed = pushed ∙ sym (ap (λ r. done ++ numbers_from here r tests) at) ∙ e
 
-pub grown_on : (numbers : List ℕ) (done more : List Bool) (p : ℕ) (rest : List Spot) (tests later : List Bool) (s : Spot) (f : Bool) (behind : List Spot) (whole : List Bool)
+pub grown_on : (numbers : List ℕ) (done more : List Bool) (p : ℕ) (rest : List Spot) (tests later : List Bool) (s : Spot) (f : Bool)
+    (behind : List Spot) (whole : List Bool)
     → done ++ grown_from numbers p rest tests ≡ whole → rest ≡ s ∷ behind → more ≡ done ++ f ∷ []
     → f ≡ (first tests || is_out numbers p s) → later ≡ others tests → more ++ grown_from numbers (p + 1) behind later ≡ whole
 unfolding grown_from
@@ -77,7 +80,8 @@ kind_on here wide number done more rest n behind whole e at pushed = side (kind_
         ap (λ xs. xs ++ map (with_number here wide) (of_kind number behind)) (rw is at pushed)
         ∙ rw is at (sym (ap (λ r. done ++ map (with_number here wide) (of_kind number r)) at) ∙ e)
 
-noted_next : (k here wide : ℕ) (notes : List Note) → noted_to k here wide notes ++ map (with_number here wide) (of_kind (k + 1) notes) ≡ noted_to (k + 1) here wide notes
+noted_next : (k here wide : ℕ) (notes : List Note) → noted_to k here wide notes ++ map (with_number here wide) (of_kind (k + 1) notes)
+    ≡ noted_to (k + 1) here wide notes
 unfolding noted_to
 noted_next k here wide notes = let e : k + 1 ≡ suc k = omega arith in rw e refl
 
@@ -102,7 +106,8 @@ place_few p (item.Aimed i t) = omega arith
 -- ---- loops
 
 pub long_on : (layout : Layout) (p q n : ℕ) (rest : List Item) (i : Item) (behind : List Item) (whole : Option ℕ)
-    → option_map (λ k. n + k) (first_long layout p rest) ≡ whole → rest ≡ i ∷ behind → is_long_loop layout p i ≡ false → q ≡ place_behind p i
+    → option_map (λ k. n + k) (first_long layout p rest) ≡ whole → rest ≡ i ∷ behind → is_long_loop layout p i ≡ false → q
+    ≡ place_behind p i
     → option_map (λ k. (n + 1) + k) (first_long layout q behind) ≡ whole
 unfolding first_long
 long_on layout p q n rest i behind whole e at is_not next =

@@ -1,7 +1,8 @@
 -- Which branches are far, this project's own. A word of a branch tells a distance of -512 to 511 words. A branch that goes further
 -- takes the opposite branch over a JMP, which are two words in place of one; a QBA takes the JMP alone. So a branch that is far may
 -- make others far, and the far ones are the least set in which each branch that goes further is.
-use Rattle.std.specs.Prelude.{ℕ, ◌+◌, ◌-◌, min, nat_lt, Bool, true, false, ◌&&◌, ◌||◌, IsTrue, Option, Some, None, List, [], ◌∷◌, length, slice_index}
+use Rattle.std.specs.Prelude.{ℕ, ◌+◌, ◌-◌, min, nat_lt, Bool, true, false, ◌&&◌, ◌||◌, IsTrue, Option, Some, None, List, [], ◌∷◌, length}
+use Rattle.std.specs.Prelude.{slice_index}
 use Rattle.branchfit.specs.declared.spot.Reach.{Reach}
 use Rattle.branchfit.specs.declared.spot.Reach.TheVariants.{Anywhere, Always, Conditional}
 use Rattle.branchfit.specs.declared.spot.Spot.{Spot}

@@ -1,5 +1,6 @@
 -- The words of a program whose far branches are known.
-use Rattle.std.specs.Prelude.{ℕ, zero, suc, ◌+◌, ◌-◌, ◌==◌, Bool, true, false, Option, Some, None, List, [], ◌∷◌, ◌++◌, map, filter, slice_get, slice_index_or}
+use Rattle.std.specs.Prelude.{ℕ, zero, suc, ◌+◌, ◌-◌, ◌==◌, Bool, true, false, Option, Some, None, List, [], ◌∷◌, ◌++◌, map, filter}
+use Rattle.std.specs.Prelude.{slice_get, slice_index_or}
 use Rattle.isa.specs.declared.control.BranchOffset.{BranchOffset}
 use Rattle.isa.specs.declared.control.Condition.{Condition}
 use Rattle.isa.specs.declared.control.Condition.TheVariants.{Lt, Eq, Le, Gt, Ne, Ge, BitClear, BitSet}
@@ -151,7 +152,8 @@ notes_at layout p pending _ = []
 
 unfoldable pub notes_from : Layout → ℕ → List Note → List Item → List Note
 notes_from layout p pending [] = []
-notes_from layout p pending (i ∷ items) = notes_at layout p pending i ++ notes_from layout (place_behind p i) (pending_behind pending i) items
+notes_from layout p pending (i ∷ items) =
+    notes_at layout p pending i ++ notes_from layout (place_behind p i) (pending_behind pending i) items
 
 -- ---- symbols and lines
 

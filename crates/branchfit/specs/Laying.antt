@@ -3,7 +3,8 @@ use Rattle.std.specs.Prelude.{◌≡◌, ℕ, ◌≤◌, List, ◌++◌}
 use Rattle.isa.specs.declared.program.Item.{Item}
 use Rattle.isa.specs.Fitted.{Fitted}
 use Rattle.branchfit.specs.declared.laying.Laying.{Laying}
-use Rattle.branchfit.specs.Laid.{Layout, number_at, words_at, notes_at, refs_at, lines_at, place_behind, pending_behind, words_from, notes_from, refs_from, lines_from}
+use Rattle.branchfit.specs.Laid.{Layout, number_at, words_at, notes_at, refs_at, lines_at, place_behind, pending_behind, words_from}
+use Rattle.branchfit.specs.Laid.{notes_from, refs_from, lines_from}
 
 -- there are no more words than a core's code may have
 abbrev pub IsSmall : Layout → Type 0

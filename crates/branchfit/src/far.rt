@@ -1,7 +1,8 @@
 //! Which branches are far.
 
 ghost use Rattle.std.specs.Prelude.{◌≡◌, ℕ, ◌+◌, ◌<◌, ◌||◌, IfOk, false, length, replicate};
-ghost use Rattle.branchfit.specs.Far.{width, first, others, numbers_from, numbers_of, number_in, is_beyond, is_branch, aims_beyond, is_out, AreFar};
+ghost use Rattle.branchfit.specs.Far.{width, first, others, numbers_from, numbers_of, number_in, is_beyond, is_branch, aims_beyond, is_out};
+ghost use Rattle.branchfit.specs.Far.{AreFar};
 ghost use Rattle.branchfit.specs.Steps.{grown_from, grown, one_near, near_count};
 
 use crate::spot::{Reach, Spot};

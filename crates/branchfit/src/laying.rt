@@ -1,11 +1,13 @@
 //! The words, notes, places of symbols and lines of the items, one after another.
 
-ghost use Rattle.std.specs.Prelude.{◌≡◌, ◌≤◌, ◌<◌, ◌+◌, ◌∷◌, ◌++◌, ◌==◌, ℕ, List, [], OnOk, IfOk, false, if◌then◌else◌, option_to_list, map, filter};
+ghost use Rattle.std.specs.Prelude.{◌≡◌, ◌≤◌, ◌<◌, ◌+◌, ◌∷◌, ◌++◌, ◌==◌, ℕ, List, [], OnOk, IfOk, false, if◌then◌else◌, option_to_list};
+ghost use Rattle.std.specs.Prelude.{map, filter};
 ghost use Rattle.isa.specs.Row.{word_of};
 ghost use Rattle.isa.specs.Note.{kind_number};
 ghost use Rattle.branchfit.specs.Far.{width};
 ghost use Rattle.branchfit.specs.Aims.{reach_of};
-ghost use Rattle.branchfit.specs.Laid.{opposite, offset_to, body_to, fitted, aimed, word_noted, with_number, of_kind, noted_to, noted, number_at, refs_aimed};
+ghost use Rattle.branchfit.specs.Laid.{opposite, offset_to, body_to, fitted, aimed, word_noted, with_number, of_kind, noted_to, noted};
+ghost use Rattle.branchfit.specs.Laid.{number_at, refs_aimed};
 ghost use Rattle.branchfit.specs.Laid as laid;
 ghost use Rattle.isa.specs.declared.program.Item.{Item};
 ghost use Rattle.branchfit.specs.Laying.{IsSmall, Lays, laid_behind};
@@ -192,7 +194,8 @@ fn push_one(
 ) -> Result<(), Memory>
     requires here { here ≤ 2048 }
     requires wide { wide ≤ 2 }
-    ensures { OnOk result (notes.new.items ≡ (if kind_number note.now.kind == number then notes.old.items ++ with_number here wide note.now ∷ [] else notes.old.items)) }
+    ensures { OnOk result (notes.new.items ≡ (if kind_number note.now.kind ==
+        number then notes.old.items ++ with_number here wide note.now ∷ [] else notes.old.items)) }
 {
     if note.kind.number() != number {
         return Ok(());
@@ -259,7 +262,8 @@ impl Laying {
         requires room { self.old.place < usize.MAX }
         requires wide { wide ≤ 2 }
         ensures words { OnOk result (self.new.words.items ≡ self.old.words.items ++ map word_of (made.now.0 ∷ option_to_list made.now.1)) }
-        ensures notes { OnOk result (self.new.notes.items ≡ self.old.notes.items ++ noted (number_at layout.now self.old.place) wide self.old.pending.items) }
+        ensures notes { OnOk result (self.new.notes.items ≡ self.old.notes.items ++ noted (number_at layout.now self.old.place) wide
+            self.old.pending.items) }
         ensures kept { OnOk result ((self.new.refs.items ≡ self.old.refs.items) × (self.new.lines.items ≡ self.old.lines.items)) }
         ensures pending { OnOk result (self.new.pending.items ≡ []) }
         ensures place { OnOk result (self.new.place ≡ self.old.place + 1) }

@@ -10,7 +10,8 @@ ghost use Rattle.corepath.specs.Pass.{Open, Passing, IsPass};
 ghost use Rattle.corepath.specs.Certificate.{Answers};
 
 /// A pass of a run of one core that keeps the notes and is closed is a part of the run, and goes along a path: in each function that runs,
-/// from its entry to the core's counter, with the function's cycles as its sum. So a whole pass takes the sum of a path to the region's end.
+/// from its entry to the core's counter, with the function's cycles as its sum. So a whole pass takes the sum of a path to the region's
+/// end.
 pub fn pass_laws()
     ensures run { (table : Table) (image : Contents) (region : ℕ) (loops : List Loop) (from : Alone) (calls : List Open)
         (e began : ℕ) (t : Option Turning) (k : Loop → ℕ) (c : ℕ) (now : Alone)

@@ -64,17 +64,24 @@ cost_between table (inst.Store a) addr wait most h =
     let q = quarters_most a in
     let c = class_most table (class_of addr) wait most h in
     record { some = omega (arith, least); few = omega (arith, dear.1, q, c) }
-cost_between table (inst.Alu op d a b) addr wait most h = let dear = load_dear table in record { some = omega arith; few = omega (arith, dear.0) }
-cost_between table (inst.Not d a) addr wait most h = let dear = load_dear table in record { some = omega arith; few = omega (arith, dear.0) }
+cost_between table (inst.Alu op d a b) addr wait most h = let dear =
+    load_dear table in record { some = omega arith; few = omega (arith, dear.0) }
+cost_between table (inst.Not d a) addr wait most h = let dear =
+    load_dear table in record { some = omega arith; few = omega (arith, dear.0) }
 cost_between table (inst.Jmp to) addr wait most h = let dear = load_dear table in record { some = omega arith; few = omega (arith, dear.0) }
-cost_between table (inst.Jal d to) addr wait most h = let dear = load_dear table in record { some = omega arith; few = omega (arith, dear.0) }
-cost_between table (inst.Ldi d n) addr wait most h = let dear = load_dear table in record { some = omega arith; few = omega (arith, dear.0) }
-cost_between table (inst.Lmbd d a b) addr wait most h = let dear = load_dear table in record { some = omega arith; few = omega (arith, dear.0) }
+cost_between table (inst.Jal d to) addr wait most h = let dear =
+    load_dear table in record { some = omega arith; few = omega (arith, dear.0) }
+cost_between table (inst.Ldi d n) addr wait most h = let dear =
+    load_dear table in record { some = omega arith; few = omega (arith, dear.0) }
+cost_between table (inst.Lmbd d a b) addr wait most h = let dear =
+    load_dear table in record { some = omega arith; few = omega (arith, dear.0) }
 cost_between table inst.Halt addr wait most h = let dear = load_dear table in record { some = omega arith; few = omega (arith, dear.0) }
 cost_between table (inst.Xin t) addr wait most h = let dear = load_dear table in record { some = omega arith; few = omega (arith, dear.0) }
 cost_between table (inst.Xout t) addr wait most h = let dear = load_dear table in record { some = omega arith; few = omega (arith, dear.0) }
-cost_between table (inst.Loop body) addr wait most h = let dear = load_dear table in record { some = omega arith; few = omega (arith, dear.0) }
-cost_between table (inst.Branch c o a b) addr wait most h = let dear = load_dear table in record { some = omega arith; few = omega (arith, dear.0) }
+cost_between table (inst.Loop body) addr wait most h = let dear =
+    load_dear table in record { some = omega arith; few = omega (arith, dear.0) }
+cost_between table (inst.Branch c o a b) addr wait most h = let dear =
+    load_dear table in record { some = omega arith; few = omega (arith, dear.0) }
 cost_between table (inst.Qba o) addr wait most h = let dear = load_dear table in record { some = omega arith; few = omega (arith, dear.0) }
 
 pub word_some : (setup : Setup) (side : Side) (i : Inst) → 1 ≤ cycles_of setup side i

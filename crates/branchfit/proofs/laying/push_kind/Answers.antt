@@ -8,11 +8,13 @@ use Rattle.branchfit.proofs.laying.push_kind.Goals as goal
 
 pub loop-note-preserved : goal.loop-note-preserved
 loop-note-preserved c =
-    kind_on c.args.here c.args.wide c.args.number c.loop-note.notes.items c.push_one.new.notes.items c.loop-note.rest.now c.in-Some.note.now c.in-Some.behind.now _
+    kind_on c.args.here c.args.wide c.args.number c.loop-note.notes.items c.push_one.new.notes.items c.loop-note.rest.now c.in-Some.note.now
+    c.in-Some.behind.now _
     c.loop-note.invariant c.in-Some.ensures.cases.0 c.in_ok-push_one.ensures
 
 pub returns : goal.returns
 returns c =
     sym (append-nil c.loop-note.notes.items)
-    ∙ ap (λ ns. c.loop-note.notes.items ++ map (with_number c.args.here c.args.wide) (of_kind c.args.number ns)) (sym (nil_from_length c.loop-note.rest.now c.in_default.ensures.cases))
+    ∙ ap (λ ns. c.loop-note.notes.items ++ map (with_number c.args.here c.args.wide) (of_kind c.args.number ns))
+    (sym (nil_from_length c.loop-note.rest.now c.in_default.ensures.cases))
     ∙ c.loop-note.invariant

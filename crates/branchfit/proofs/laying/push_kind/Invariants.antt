@@ -5,7 +5,9 @@ use Rattle.branchfit.specs.Laid.{with_number, of_kind}
 use Rattle.branchfit.proofs.laying.push_kind.Given as goal
 
 abbrev pub invariant-loop-note : goal.invariant-loop-note
-invariant-loop-note l = l.notes.items ++ map (with_number l.here l.wide) (of_kind l.number l.rest) ≡ l.fn.notes.items ++ map (with_number l.here l.wide) (of_kind l.number l.fn.pending)
+invariant-loop-note l =
+    l.notes.items ++ map (with_number l.here l.wide) (of_kind l.number l.rest) ≡ l.fn.notes.items ++ map (with_number l.here l.wide)
+    (of_kind l.number l.fn.pending)
 
 abbrev pub decreases-loop-note : goal.decreases-loop-note
 decreases-loop-note l = length l.rest

@@ -6,7 +6,8 @@ use Rattle.branchfit.proofs.loops.first_long.Goals as goal
 
 pub loop-item-preserved : goal.loop-item-preserved
 loop-item-preserved c = (
-  long_on c.args.layout.now c.loop-item.place c.place_behind-next.result c.loop-item.number c.loop-item.rest.now c.in-Some.item.now c.in-Some.behind.now _
+  long_on c.args.layout.now c.loop-item.place c.place_behind-next.result c.loop-item.number c.loop-item.rest.now c.in-Some.item.now
+      c.in-Some.behind.now _
       c.loop-item.invariant.0 c.in-Some.ensures.cases.0 (sym c.is_long_loop.ensures ∙ c.if-is_long_loop.false) c.place_behind-next.ensures,
   omega (arith, ap length c.in-Some.ensures.cases.0, c.place_behind-next.ensures, place_few c.loop-item.place c.in-Some.item.now),
   omega (arith, ap length c.in-Some.ensures.cases.0),
