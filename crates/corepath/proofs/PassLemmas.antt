@@ -1,7 +1,6 @@
 -- A pass of a run goes along a path.
-use Rattle.std.proofs.Common.{◌≡◌, ℕ, ◌+◌, ◌<◌, ◌≤◌, Bool, true, false, List, [], ◌∷◌, Option, Some, None}
-use Rattle.std.proofs.Common.{refl, sym, ap, subst, ◌∙◌, arith, inl, inr}
-use Rattle.isa.specs.declared.inst.Inst.{Inst}
+use Rattle.std.proofs.Common.{◌≡◌, ℕ, ◌+◌, List, [], ◌∷◌, Option, None}
+use Rattle.std.proofs.Common.{refl, sym, ap, subst, arith, inr}
 use Rattle.isa.specs.Image.{Contents}
 use Rattle.corestep.specs.declared.onward.Turning.{Turning}
 use Rattle.corestep.specs.declared.table.Table.{Table}
@@ -11,7 +10,7 @@ use Rattle.corerun.specs.Solo.{Alone, alone_step}
 use Rattle.corepath.specs.Flow.{Calls}
 use Rattle.corepath.specs.Loops.{Loop}
 use Rattle.corepath.specs.Path.{Path, begin as path_begin, step as path_step, call as path_call, own_cost, Ends}
-use Rattle.corepath.specs.Pass.{Open, Passing, begin, word, call, return, IsPass, cycles_of}
+use Rattle.corepath.specs.Pass.{Open, Passing, begin, word, call, return, IsPass}
 use Rattle.corepath.proofs.StepLemmas.{Agrees, own_cycles, plain_along, call_comes}
 
 module _ (table : Table) (image : Contents) (region : ℕ) (loops : List Loop) where

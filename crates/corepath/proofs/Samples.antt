@@ -1,5 +1,5 @@
 -- Small regions, worked out by hand: paths to each place with their sums.
-use Rattle.std.proofs.Common.{◌≡◌, ℕ, ◌+◌, ◌<◌, lit<, Bool, true, false, List, [], ◌∷◌, Option, Some, None, refl, inl, inr}
+use Rattle.std.proofs.Common.{◌≡◌, ℕ, lit<, List, [], ◌∷◌, Option, Some, None, refl, inl, inr}
 use Rattle.isa.specs.declared.inst.Inst.{Inst}
 use Rattle.isa.specs.declared.inst.Inst.TheVariants as inst
 use Rattle.isa.specs.declared.note.Note.{Note}
@@ -7,12 +7,11 @@ use Rattle.isa.specs.declared.note.NoteKind.TheVariants.{Enter, Leave, Return, T
 use Rattle.isa.specs.Decoded.{decoded, inst_at as row_inst, single_at, branch_at, jump_at, memory_at, access_from}
 use Rattle.isa.specs.Image.{Contents}
 use Rattle.corestep.specs.declared.onward.Turning.{Turning}
-use Rattle.corestep.specs.declared.table.Table.{Table}
 use Rattle.corestep.specs.declared.table.Table.TheVariants.{One, Two}
 use Rattle.corestep.specs.Step.{inst_at}
-use Rattle.corepath.specs.Flow.{entry_of, Goes, Calls, Returns}
+use Rattle.corepath.specs.Flow.{entry_of, Goes}
 use Rattle.corepath.specs.Loops.{Loop, loop_at}
-use Rattle.corepath.specs.Path.{Path, begin, step, call, Ends, Shares}
+use Rattle.corepath.specs.Path.{Path, begin, step, call, Ends}
 
 abbrev image_of : List ℕ → List Note → Contents
 image_of words notes = record { words = words; data_at = 16; init = []; zero = 0; notes = notes }

@@ -1,5 +1,5 @@
 -- What a word does to the core's counter and its LOOP, in the terms of paths.
-use Rattle.std.proofs.Common.{◌≡◌, ℕ, ◌+◌, ◌-◌, ◌*◌, ◌<◌, ◌≤◌, Bool, true, false, cond, List, [], ◌∷◌, ◌++◌, Option, Some, None}
+use Rattle.std.proofs.Common.{◌≡◌, ℕ, ◌+◌, ◌-◌, Bool, true, false, cond, List, Option, Some, None}
 use Rattle.std.proofs.Common.{refl, sym, ap, subst, ◌∙◌, arith, ◌⊎◌, inl, inr}
 use Rattle.std.specs.Prelude.{◌==◌, ◌&&◌, nat_lt, nat_le}
 use Rattle.std.proofs.lemmas.Bool.{eqb-false}
@@ -7,11 +7,11 @@ use Rattle.isa.specs.declared.control.Jump.TheVariants as jump
 use Rattle.isa.specs.declared.inst.Inst.{Inst}
 use Rattle.isa.specs.declared.inst.Inst.TheVariants as inst
 use Rattle.isa.specs.Image.{Contents}
-use Rattle.isa.specs.Note.{branch_target, is_access, is_jump_to_field}
-use Rattle.behaviour.specs.Ran.{Ran, Done, Stopped, state_of}
+use Rattle.isa.specs.Note.{branch_target, is_access}
+use Rattle.behaviour.specs.Ran.{Done, Stopped, state_of}
 use Rattle.behaviour.specs.declared.stop.Stop.TheVariants as stops
 use Rattle.corestep.specs.declared.goes.Goes.{Goes as Onto}
-use Rattle.corestep.specs.declared.goes.Goes.TheVariants.{Behind, Number, Target, Around, Nowhere}
+use Rattle.corestep.specs.declared.goes.Goes.TheVariants.{Behind, Target}
 use Rattle.corestep.specs.declared.onward.Onward.{Onward}
 use Rattle.corestep.specs.declared.onward.Turning.{Turning}
 use Rattle.corestep.specs.declared.out.Stop.{Stop}
@@ -20,11 +20,11 @@ use Rattle.corestep.specs.declared.table.Class.{Class}
 use Rattle.corestep.specs.declared.table.Class.TheVariants.{Own}
 use Rattle.corestep.specs.declared.table.Table.{Table}
 use Rattle.corestep.specs.Core.{State, onward}
-use Rattle.corestep.specs.Cost.{load_cycles, store_cycles, class_cycles, quarters, cost}
+use Rattle.corestep.specs.Cost.{load_cycles, store_cycles, class_cycles, quarters}
 use Rattle.corestep.specs.Effect.{Given, Effect, effect}
-use Rattle.corestep.specs.Memory.{class_of, address_of}
-use Rattle.corestep.specs.Step.{Stepped, istep, step_by, inst_at, notes_at, goes_on, turning_from, stop_of, after_effect}
-use Rattle.corerun.specs.Solo.{Alone, Went, alone_step, step_standing, step_at, step_with, after_step}
+use Rattle.corestep.specs.Memory.{class_of}
+use Rattle.corestep.specs.Step.{istep, step_by, inst_at, goes_on, turning_from, stop_of}
+use Rattle.corerun.specs.Solo.{Alone, Went, step_standing, step_at, step_with, after_step}
 use Rattle.corerun.specs.Values.{Taken, taken_by}
 use Rattle.corepath.specs.Flow.{Aims, called}
 use Rattle.corepath.specs.Path.{come, is_loop, own_cost}

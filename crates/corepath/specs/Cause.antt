@@ -1,5 +1,5 @@
 -- Why a region gets no certificate. Each cause stands at a word, and speaks of paths that have the turns of all loops free.
-use Rattle.std.specs.Prelude.{◌≡◌, ◌≢◌, ℕ, ◌+◌, ◌<◌, ◌≤◌, ◌⊎◌, Bool, true, false, List, Option, Some, None, Contains}
+use Rattle.std.specs.Prelude.{◌≡◌, ◌≢◌, ℕ, ◌+◌, ◌≤◌, ◌⊎◌, Bool, true, false, List, Some, None, Contains}
 use Rattle.std.specs.List.{AllByRecursion}
 use Rattle.isa.specs.declared.control.LoopBody.{LoopBody}
 use Rattle.isa.specs.declared.inst.Inst.{Inst}

@@ -1,5 +1,5 @@
 -- What a certificate of a region says: its bounds, and one label for each word that a path comes to, by the entry that it comes from.
-use Rattle.std.specs.Prelude.{◌≡◌, ℕ, ◌<◌, ◌≤◌, ◌⊎◌, List, [], ◌∷◌, Option, Some, None, IsSome, Contains}
+use Rattle.std.specs.Prelude.{◌≡◌, ℕ, ◌<◌, ◌⊎◌, List, [], ◌∷◌, Option, Some, None, IsSome, Contains}
 use Rattle.isa.specs.Image.{Contents}
 use Rattle.corestep.specs.declared.onward.Turning.{Turning}
 use Rattle.corestep.specs.declared.table.Table.{Table}

@@ -1,6 +1,6 @@
 -- Where control goes in a region of an image, with the turns of all loops left free. A call is one step of what calls it: the words of a
 -- called function are reached from that function's own entry.
-use Rattle.std.specs.Prelude.{◌≡◌, ℕ, ◌+◌, ◌==◌, ◌&&◌, ◌⊎◌, Bool, true, false, List, find, Option, Some, None, option_map}
+use Rattle.std.specs.Prelude.{◌≡◌, ℕ, ◌+◌, ◌==◌, ◌&&◌, ◌⊎◌, Bool, true, false, find, Option, Some, None, option_map}
 use Rattle.std.specs.List.{list_any}
 use Rattle.isa.specs.declared.control.Jump.{Jump}
 use Rattle.isa.specs.declared.control.Jump.TheVariants as jump

@@ -8,11 +8,9 @@ use Rattle.isa.specs.declared.control.Jump.TheVariants as jump
 use Rattle.isa.specs.declared.note.NoteKind.TheVariants.{Return}
 use Rattle.isa.specs.Image.{Contents}
 use Rattle.isa.specs.Note.{is_access, is_jump_to_field}
-use Rattle.behaviour.specs.Ran.{Ran, Done}
+use Rattle.behaviour.specs.Ran.{Done}
 use Rattle.corestep.specs.declared.onward.Turning.{Turning}
-use Rattle.corestep.specs.declared.out.Stop.{Stop}
 use Rattle.corestep.specs.declared.out.Stop.TheVariants.{Going}
-use Rattle.corestep.specs.declared.table.Class.{Class}
 use Rattle.corestep.specs.declared.table.Class.TheVariants.{Own}
 use Rattle.corestep.specs.declared.table.Table.{Table}
 use Rattle.corestep.specs.Core.{State}

@@ -1,6 +1,5 @@
 -- The paths of a region with their sums.
 use Rattle.std.specs.Prelude.{◌≡◌, ℕ, ◌+◌, ◌-◌, ◌≤◌, Bool, true, false, if◌then◌else◌, List, Option, Some, None, option_and_then}
-use Rattle.std.specs.List.{AllByRecursion}
 use Rattle.isa.specs.declared.inst.Inst.{Inst}
 use Rattle.isa.specs.declared.inst.Inst.TheVariants as inst
 use Rattle.isa.specs.Image.{Contents}
@@ -10,7 +9,7 @@ use Rattle.corestep.specs.declared.table.Table.{Table}
 use Rattle.corestep.specs.Core.{onward}
 use Rattle.corestep.specs.Cost.{cost}
 use Rattle.corestep.specs.Step.{inst_at, turning_from}
-use Rattle.corepath.specs.Flow.{Goes, Calls, Returns, IsEntry, leaves}
+use Rattle.corepath.specs.Flow.{Goes, Calls, Returns, leaves}
 use Rattle.corepath.specs.Loops.{Loop, Counts, NoneTurned, AllLeft}
 
 abbrev pub is_loop : Inst → Bool
