@@ -1,3 +1,5 @@
+ghost use Rattle.cmdwords.specs.Form.{HasNames, form_of};
+
 use super::*;
 use std::alloc::{AllocError, Global};
 use std::test::Fail;
@@ -17,7 +19,9 @@ fn owned(alloc: Global, words: &[&str]) -> Result<Vec<String>, AllocError> {
     Ok(owned)
 }
 
-fn asks(alloc: Global, form: Form<'static>, row: &Row) -> Result<bool, AllocError> {
+fn asks(alloc: Global, form: Form<'static>, row: &Row) -> Result<bool, AllocError>
+    requires { HasNames (form_of form) }
+{
     let words = owned(alloc, row.words)?;
     let given = read(alloc, form, words.as_slice())?;
     Ok(match (given, row.asked) {
