@@ -4,7 +4,6 @@ pub mod Tokens
 pub mod Verdict
 pub mod SourceParts
 pub mod RunSteps
-pub mod SixWords
 pub mod Told
 pub mod TopBuild
 pub mod TopRun

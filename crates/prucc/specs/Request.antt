@@ -1,8 +1,9 @@
 -- What the program's words may ask for.
-use Rattle.std.specs.Prelude.{◌≡◌, ◌≢◌, ℕ, ◌≤◌, List, [], ◌∷◌, ◌++◌, map, String, codes}
+use Rattle.std.specs.Prelude.{ℕ, List, [], ◌∷◌, ◌++◌, map, String, codes}
 use Rattle.std.specs.declared.alloc.Global.{Global}
 use Rattle.std.specs.String.{string_bytes}
-use Rattle.std.specs.Fmt.{decimal}
+use Rattle.cmdwords.specs.Asks.{Asks as WordsAsk, Said, file, number}
+use Rattle.cmdwords.specs.Modes.{run_form}
 use Rattle.prucc.specs.declared.request.Request.{Request}
 
 -- a run of two sources under a script, for so many cycles, whose files begin with a name
@@ -13,24 +14,13 @@ pub record Asked : Type 0 where
   pub cycles : ℕ
   pub out : List ℕ
 
--- the words that ask for it
-abbrev pub words_of : Asked → List (List ℕ)
-words_of r = codes "run" ∷ r.zero ∷ r.one ∷ r.script ∷ decimal r.cycles ∷ r.out ∷ []
+-- what stands at the places of a run's words
+abbrev pub values_of : Asked → List Said
+values_of r = file r.zero ∷ file r.one ∷ file r.script ∷ number r.cycles ∷ file r.out ∷ []
 
--- A word that begins with a minus sign is no file's name, unless it is the sign alone.
-abbrev pub IsFileWord : List ℕ → Type 0
-IsFileWord [] = Unit {0}
-IsFileWord (c ∷ []) = Unit {0}
-IsFileWord (c ∷ d ∷ rest) = c ≢ 45
-
--- the words ask for this run, of at most 2,000,000 cycles
-pub record Asks (words : List (List ℕ)) (r : Asked) : Type 0 where
-  pub text : words ≡ words_of r
-  pub zero : IsFileWord r.zero
-  pub one : IsFileWord r.one
-  pub script : IsFileWord r.script
-  pub cycles : r.cycles ≤ 2000000
-  pub out : IsFileWord r.out
+-- The words have the form of a run, of at most 2,000,000 cycles, and ask for this one.
+abbrev pub Asks : List (List ℕ) → Asked → Type 0
+Asks words r = WordsAsk run_form words (record { values = values_of r; options = [] })
 
 abbrev pub texts : List (String Global) → List (List ℕ)
 texts words = map string_bytes words

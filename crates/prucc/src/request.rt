@@ -1,13 +1,11 @@
-ghost use Rattle.std.specs.Prelude.{◌≡◌, ◌≤◌, ◌↔◌, ℕ, IsTrue, IfOk, MatchOption};
-ghost use Rattle.std.specs.Fmt.{decimal};
-ghost use Rattle.prucc.specs.Request.{Asked, IsFileWord, Asks, texts, asked, events_name};
+ghost use Rattle.std.specs.Prelude.{◌≡◌, IfOk, MatchOption, map};
+ghost use Rattle.cmdwords.specs.Given.{said};
+ghost use Rattle.prucc.specs.Request.{Asked, Asks, texts, asked, events_name, values_of};
 
 use crate::name::Name;
+use cmdwords::{Mode, Value, read};
 use prunum::Memory;
 use std::alloc::Global;
-
-/// The most cycles of one run.
-const MOST_CYCLES: u32 = 2_000_000;
 
 /// A run of two sources under a script: `run A B H N OUT`.
 #[derive(Debug, Drop)]
@@ -19,30 +17,28 @@ pub struct Request {
     pub out: Name,
 }
 
-/// Whether a word may be a file's name.
-fn is_file_word(word: &str) -> bool
-    ensures { IsTrue result ↔ IsFileWord word.now }
+/// The run that stands at the places, if these are a run's.
+fn run_of(alloc: Global, values: &[Value<'_>]) -> Result<Option<Request>, Memory>
+    ensures { IfOk result (λ o. MatchOption o ((r : Asked) → map said values.now ≡ values_of r → ⊥)
+        (λ request. map said values.now ≡ values_of (asked request))) }
 {
-    !matches!(word.as_bytes(), [b'-', _, ..])
-}
-
-/// The number of cycles that a word says in decimal, without sign or leading zeros.
-fn cycles_of(alloc: Global, word: &str) -> Result<Option<u32>, Memory>
-    ensures { IfOk result (λ o. MatchOption o ((n : ℕ) → n ≤ MOST_CYCLES → decimal n ≡ word.now → ⊥)
-        (λ n. (n ≤ MOST_CYCLES) × (decimal n ≡ word.now))) }
-{
-    let Ok(cycles) = word.parse::<u32>() else {
+    let [
+        Value::File(zero),
+        Value::File(one),
+        Value::File(script),
+        Value::Number(cycles),
+        Value::File(out),
+    ] = values
+    else {
         return Ok(None);
     };
-    if cycles > MOST_CYCLES {
-        return Ok(None);
-    }
-    // A sign or a leading zero is not printed again.
-    let text = cycles.to_string(alloc)?;
-    if text.as_str() != word {
-        return Ok(None);
-    }
-    Ok(Some(cycles))
+    Ok(Some(Request {
+        zero: Name::of(alloc, *zero)?,
+        one: Name::of(alloc, *one)?,
+        script: Name::of(alloc, *script)?,
+        cycles: *cycles,
+        out: Name::of(alloc, *out)?,
+    }))
 }
 
 impl Request {
@@ -51,27 +47,11 @@ impl Request {
         ensures { IfOk result (λ o. MatchOption o ((r : Asked) → Asks (texts words.now) r → ⊥)
             (λ request. Asks (texts words.now) (asked request))) }
     {
-        let [mode, zero, one, script, cycles, out] = words else {
+        let Some(given) = read(alloc, Mode::Run.form(), words)? else {
             return Ok(None);
         };
-        if mode.as_str() != "run"
-            || !is_file_word(zero.as_str())
-            || !is_file_word(one.as_str())
-            || !is_file_word(script.as_str())
-            || !is_file_word(out.as_str())
-        {
-            return Ok(None);
-        }
-        let Some(cycles) = cycles_of(alloc, cycles.as_str())? else {
-            return Ok(None);
-        };
-        Ok(Some(Request {
-            zero: Name::of(alloc, zero.as_str())?,
-            one: Name::of(alloc, one.as_str())?,
-            script: Name::of(alloc, script.as_str())?,
-            cycles,
-            out: Name::of(alloc, out.as_str())?,
-        }))
+        let request = run_of(alloc, given.values.as_slice())?;
+        Ok(request)
     }
 
     /// The name of the file of events.

@@ -99,6 +99,12 @@ fn runs_and_refusals(rt: HostRuntime) -> Result<(), Fail> {
             ..done
         },
         Case {
+            words: &["run", "A", "--", "B", "H", "0", "OUT"],
+            events: Some("core 0\ncore 1\n"),
+            lines: "core 0 events 0 instructions 0 spills 0 running clean\ncore 1 events 0 instructions 0 spills 0 running clean\n",
+            ..Case::run(FIVE, 0, "done")
+        },
+        Case {
             failing_call: 1,
             ..Case::run(FIVE, 6, "read A")
         },
@@ -184,6 +190,7 @@ fn runs_and_refusals(rt: HostRuntime) -> Result<(), Fail> {
         Case::words(&["run", "A", "B", "H", "2000001", "OUT"]),
         Case::words(&["run", "A", "B", "H", "01", "OUT"]),
         Case::words(&["run", "-x", "B", "H", "1", "OUT"]),
+        Case::words(&["run", "A", "B", "H", "1", "OUT", "--help"]),
         Case::words(&["help"]),
         Case::words(&[]),
     ] {

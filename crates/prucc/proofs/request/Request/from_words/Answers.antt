@@ -1,37 +1,40 @@
-use Rattle.std.proofs.Common.{◌≡◌, ◌≤◌, ℕ, List, Option, Some, refl, sym, subst, ◌∙◌, rules}
-use Rattle.std.specs.Prelude.{codes, MatchOption}
-use Rattle.std.specs.Fmt.{decimal}
-use Rattle.std.specs.String.{string_bytes}
-use Rattle.prucc.specs.Request.{IsFileWord}
-use Rattle.prucc.proofs.SixWords.{six_texts}
+use Rattle.std.proofs.Common.{rules, ◌≡◌, List, Option, Some, None, [], map, option_map, refl, sym, ap, subst}
+use Rattle.std.specs.Prelude.{MatchOption}
+use Rattle.cmdwords.specs.Form.{Form, Text, form_of}
+use Rattle.cmdwords.specs.Asks.{Asked as WordsAsked, Asks as WordsAsk, Said}
+use Rattle.cmdwords.specs.Given.{asked as given_asked, said}
+use Rattle.cmdwords.specs.Modes.{run_form}
+use Rattle.cmdwords.specs.declared.reader.Given.{Given}
+use Rattle.cmdwords.proofs.Reading.{one_meaning}
+use Rattle.prucc.specs.declared.request.Request.{Request}
+use Rattle.prucc.specs.Request.{Asked, Asks, asked, texts, values_of}
 use Rattle.prucc.proofs.request.Request.from_words.Goals as goal
 
-some_cycles : (o : Option ℕ) (n : ℕ) (word : List ℕ) → o ≡ Some n
-    → MatchOption o ((m : ℕ) → m ≤ 2000000 → decimal m ≡ word → ⊥) (λ m. (m ≤ 2000000) × (decimal m ≡ word))
-    → (n ≤ 2000000) × (decimal n ≡ word)
-some_cycles o n word is h = subst (λ (p : Option ℕ). MatchOption p ((m : ℕ) → m ≤ 2000000 → decimal m ≡ word → ⊥)
-    (λ m. (m ≤ 2000000) × (decimal m ≡ word))) is h
+-- the reader's answer
+abbrev IsRead : Form → List Text → Option Given → Type 0
+IsRead form words o = MatchOption o ((a : WordsAsked) → WordsAsk form words a → ⊥) (λ given. WordsAsk form words (given_asked given))
+
+-- what stands at the places decides
+ended : (words : List Text) (values : List Said) (options : List (Option Text)) → WordsAsk run_form words (record { values = values; options = options })
+    → (o : Option Request) → MatchOption o ((r : Asked) → values ≡ values_of r → ⊥) (λ request. values ≡ values_of (asked request))
+    → MatchOption o ((r : Asked) → Asks words r → ⊥) (λ request. Asks words (asked request))
+ended words values options asks None never = λ r other.
+    never r (ap (λ (a : WordsAsked). a.values) (one_meaning run_form words (record { values = values; options = options })
+    (record { values = values_of r; options = [] }) refl refl asks other))
+ended words values options asks (Some request) e =
+    let alone = subst (λ (l : List (Option Text)). WordsAsk run_form words (record { values = values; options = l })) asks.options asks in
+    subst (λ (l : List Said). WordsAsk run_form words (record { values = l; options = [] })) e alone
+
+pub returns-in_default : goal.returns-in_default
+returns-in_default c = λ r asks.
+    let words = texts c.args.words.now in
+    let never = subst (IsRead run_form words) c.in_default.is (subst (λ f. IsRead f words c.in_ok-given.field-0) c.form.ensures c.in_ok-given.ensures) in
+    never (record { values = values_of r; options = [] }) asks
 
 pub returns : goal.returns
 returns c =
-    let n = some_cycles c.in_ok-cycles.field-0 c.in-Some.cycles c.as_str-2.result.now c.in-Some.is c.in_ok-cycles.ensures in
-    let run : string_bytes c.mode-item.result ≡ codes "run" = search rules in
-    let file : (word name : List ℕ) → word ≡ name → IsFileWord word → IsFileWord name =
-    λ (word : List ℕ) (name : List ℕ) (e : word ≡ name) (h : IsFileWord word). subst IsFileWord e h in
-    record {
-      text = six_texts string_bytes c.args.words.now c.mode-item.result c.zero-item.result c.one-item.result c.script-item.result
-          c.cycles-item.result c.out-item.result _ _ _ _ _ _ c.in-len6.len_at_least c.in-len6.len_below
-          c.mode-item.is c.zero-item.is c.one-item.is c.script-item.is c.cycles-item.is c.out-item.is
-          run (sym (c.in_ok-of.ensures ∙ c.as_str-3.ensures.value)) (sym (c.in_ok-of-2.ensures ∙ c.as_str-4.ensures.value))
-          (sym (c.in_ok-of-3.ensures ∙ c.as_str-5.ensures.value))
-          (sym (n.1 ∙ c.as_str-2.ensures.value)) (sym (c.in_ok-of-4.ensures ∙ c.as_str-6.ensures.value));
-      zero = file _ _ (c.as_str-else-ne.ensures.value ∙ sym (c.in_ok-of.ensures ∙ c.as_str-3.ensures.value))
-          (c.if-not-is_file_word.ensures.0 refl);
-      one = file _ _ (c.as_str-else-not-is_file_word.ensures.value ∙ sym (c.in_ok-of-2.ensures ∙ c.as_str-4.ensures.value))
-          (c.if-not-is_file_word-2.ensures.0 refl);
-      script = file _ _ (c.as_str-else-not-is_file_word-2.ensures.value ∙ sym (c.in_ok-of-3.ensures ∙ c.as_str-5.ensures.value))
-          (c.if-not-is_file_word-3.ensures.0 refl);
-      cycles = n.0;
-      out = file _ _ (c.as_str-else-not-is_file_word-3.ensures.value ∙ sym (c.in_ok-of-4.ensures ∙ c.as_str-6.ensures.value))
-          (c.if-not-is_file_word-4.ensures.0 refl);
-    }
+    let words = texts c.args.words.now in
+    let given = subst (IsRead run_form words) c.in-Some.is (subst (λ f. IsRead f words c.in_ok-given.field-0) c.form.ensures c.in_ok-given.ensures) in
+    let values = map said c.in-Some.given.values.items in
+    let run : MatchOption c.in_ok-request.request ((r : Asked) → values ≡ values_of r → ⊥) (λ request. values ≡ values_of (asked request)) = search rules in
+    ended words values _ given c.in_ok-request.request run
