@@ -1,0 +1,5 @@
+pub mod Counted
+pub mod Held
+pub mod Piece
+pub mod Related
+pub mod Stands
