@@ -2,3 +2,5 @@ pub mod Laws
 pub mod Pieces
 pub mod Places
 pub mod Pairs
+pub mod Numbers
+pub mod Agree
