@@ -32,14 +32,10 @@ use Rattle.cmean.specs.Datum.{Datum}
 use Rattle.cmean.specs.State.{State, Run, give, then_with, then_do, change, in_budget, tick, node, undefined}
 use Rattle.lowerstate.specs.Counted.{Counted, counting, counted, least_at}
 use Rattle.lowerstate.specs.Held.{Meant, Held}
-use Rattle.lowerstate.specs.Related.{Fixed, Call, IsCall, Kept, Point, homes_with, Holds, IsKept, Related}
+use Rattle.lowerstate.specs.Related.{Fixed, Call, IsCall, Kept, Point, homes_with, Holds, IsKept, Related, stepped}
 use Rattle.lowerstate.specs.Stands.{IsEven, IsWaiting, Ends, Does}
 
 -- ---- acts of the meaning
-
--- behind a step: it pays 512 cycles, and is one more since the last solid operation
-abbrev pub stepped : Point → ℕ → Point
-stepped x hand = record x { hand = hand; owed = x.owed + 1 }
 
 module _ (r : Fixed) (c : Call) where
   late-all : (steps product owed : ℕ) → owed ≤ r.most → steps ≤ product + owed → steps ≤ product + r.most
@@ -141,7 +137,7 @@ with-same registers q v = if-same (q == q) (Some v) (registers q) (eq-eqb q q re
 with-other : (registers : ℕ → Option ℕ) (q v p : ℕ) → p < q → with_register registers q v p ≡ registers p
 with-other registers q v p below = if-other (p == q) (Some v) (registers p) (ne_eqb p q (λ same. omega (arith, same, below)))
 
-late-more : (most least more steps owed : ℕ) → steps ≤ most * least + owed → steps ≤ most * (least + more) + owed
+pub late-more : (most least more steps owed : ℕ) → steps ≤ most * least + owed → steps ≤ most * (least + more) + owed
 late-more most least more steps owed late =
     let grown : most * least ≤ most * (least + more) = mul-le most least most (least + more) (omega arith) (omega arith) in
     omega (arith, late, grown)
@@ -150,7 +146,7 @@ module _ (r : Fixed) (c : Call) (call : IsCall r c) where
   runs : (x : Point) (s : State) (m : Counted) → Related r c x s m → running r.program m.state ≡ c.ops
   runs x s m related = ap (λ f. kinds_of_function (function_at r.program f)) related.function ∙ call.ops
 
-  op-at : (x : Point) (s : State) (m : Counted) (k : OpKind) → Related r c x s m → slice_get c.ops x.place ≡ Some k
+  pub op-at : (x : Point) (s : State) (m : Counted) (k : OpKind) → Related r c x s m → slice_get c.ops x.place ≡ Some k
       → slice_get (running r.program m.state) m.state.frame.place ≡ Some k
   op-at x s m k related is =
       ap (λ ks. slice_get ks m.state.frame.place) (runs x s m related) ∙ (ap (λ n. slice_get c.ops n) related.place ∙ is)
@@ -171,7 +167,7 @@ module _ (r : Fixed) (c : Call) (call : IsCall r c) where
         (slice_get (running r.program m.state) m.state.frame.place);
   }
 
-  op-reaches : (m : Counted) (k : OpKind) (t : machine.State) → slice_get (running r.program m.state) m.state.frame.place ≡ Some k
+  pub op-reaches : (m : Counted) (k : OpKind) (t : machine.State) → slice_get (running r.program m.state) m.state.frame.place ≡ Some k
       → effect r.program r.addresses k (charged k m.state) ≡ Done tt t
       → Reaches (counted r.program r.addresses) m (counted_to m t)
   unfolding step
@@ -224,3 +220,5 @@ module _ (r : Fixed) (c : Call) (call : IsCall r c) where
 
       new : Held r.layouts (homes_with c related.later) t d v
       new = subst (λ (u : Width). Held r.layouts (homes_with c related.later) t d (wrap u n)) (sym (width-at x s m k q w related width)) held
+
+pub ruleset act_rules = (tick-does, even)

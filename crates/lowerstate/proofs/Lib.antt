@@ -4,3 +4,5 @@ pub mod Places
 pub mod Pairs
 pub mod Numbers
 pub mod Agree
+pub mod Sequence
+pub mod Shown

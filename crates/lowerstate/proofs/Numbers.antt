@@ -12,6 +12,7 @@ use Rattle.csyn.specs.declared.specifiers.Sign.{Sign}
 use Rattle.csyn.specs.declared.specifiers.Sign.TheVariants.{Signed, Unsigned}
 use Rattle.csyn.specs.declared.operator.BinaryOperator.{BinaryOperator}
 use Rattle.csyn.specs.declared.operator.BinaryOperator.TheVariants as source
+use Rattle.csyn.specs.declared.operator.ComparisonOperator.{ComparisonOperator}
 use Rattle.midcode.specs.declared.register.VReg.{VReg}
 use Rattle.midcode.specs.declared.op.OpKind.{OpKind}
 use Rattle.midcode.specs.declared.op.OpKind.TheVariants as op
@@ -25,7 +26,7 @@ use Rattle.midcode.specs.Value.{unary_value, binary_value}
 use Rattle.midcode.specs.Machine as machine
 use Rattle.midcode.specs.Meaning.{width_of, effect, charged}
 use Rattle.cprogram.specs.declared.scalar.Integer.{Integer}
-use Rattle.cmean.specs.Datum.{Datum, Number, Null, Plain, Address, is_true, truth_number, unary, binary}
+use Rattle.cmean.specs.Datum.{Datum, Number, Null, Plain, Address, is_true, truth_number, unary, binary, comparison, leftmost_bit}
 use Rattle.cmean.specs.State.{State, Run, give, then_with, sure}
 use Rattle.cmean.specs.Expression.{Valued, datum, number_in, both, number_value}
 use Rattle.lowerstate.specs.Counted.{Counted, counted}
@@ -33,17 +34,14 @@ use Rattle.lowerstate.specs.Held.{Meant, OfInteger, meant_width, Home, Held}
 use Rattle.lowerstate.specs.Related.{Fixed, Call, IsCall, Kept, Point, homes_with, Related}
 use Rattle.lowerstate.specs.Stands.{Ends, Does}
 use Rattle.lowerstate.specs.Piece.{Code, Free, behind, joined, next_register, followed, least_hand, IsIn, IsReady, onwards, Given, Evaluates}
-use Rattle.lowerstate.specs.Piece.{IsValue, IsDatum, IsNumber}
-use Rattle.lowerstate.specs.Operators.{operation}
-use Rattle.lowerstate.proofs.Agree.{wrap-small, wrap-below, unary-agrees-minus, unary-agrees-complement, binary-agrees, binary-below}
+use Rattle.lowerstate.specs.Piece.{IsValue, IsDatum, IsNumber, word, register, constant_code}
+use Rattle.lowerstate.specs.Operators.{operation, comparing, is_swapped}
+use Rattle.lowerstate.proofs.Agree.{wrap-small, wrap-below, unary-agrees-minus, unary-agrees-complement, binary-agrees, binary-below, binary-charge, comparison-agrees}
+use Rattle.lowerstate.proofs.Agree.{truth-below, leftmost-agrees, leftmost-below}
 use Rattle.lowerstate.proofs.Laws.{written, wrote}
 use Rattle.lowerstate.proofs.Places.{stands-first}
-use Rattle.lowerstate.proofs.Pieces.{register, below-more, adjust, next-same, next-op}
+use Rattle.lowerstate.proofs.Pieces.{below-more, adjust, next-same, next-op}
 use Rattle.lowerstate.proofs.Pairs.{both-op}
-
--- numbers of four bytes, as arithmetic has them
-abbrev pub word : Sign → Meant
-word sign = OfInteger (record { width = B4; sign = sign })
 
 -- ---- what is read
 
@@ -85,9 +83,6 @@ module _ (r : Fixed) (c : Call) where
           subst (λ (e : Datum). Held r.layouts homes (word s) e v) is held))
 
 -- ---- constants
-
-abbrev pub constant_code : Free → ℕ → Code
-constant_code f n = record { ops = op.Constant (register f.register) n ∷ []; widths = B4 ∷ []; labels = 0; result = f.register }
 
 module _ (r : Fixed) (c : Call) (call : IsCall r c) where
   pub constant-of : (f : Free) (sign : Sign) (n : ℕ) → n < 2 ^ 32
@@ -146,3 +141,93 @@ module _ (r : Fixed) (c : Call) (call : IsCall r c) where
           (Some (Number (unary Complement n)), Number (unary Complement n), unary_value one.Complement v, refl, refl,
           got m (register code.result) v _ reg,
           computed t homes (unary Complement n) (unary_value one.Complement v) (ap (unary_value one.Complement) at.0 ∙ agrees.0) agrees.1))
+
+  -- an operation on two numbers, where it computes what is meant
+  module _ (f : Free) (a b : Code) (s t u : Sign) (run : Run ℕ) (second : Run ℕ) (nodes others spare back left : ℕ) where
+    abbrev pub pair_code : BinaryOp → Code
+    pair_code o = followed f (joined a b)
+        (op.Binary o (register (next_register f (joined a b))) (register a.result) (operand.Register (register b.result))) B4
+
+    -- the same with the sides changed
+    abbrev pub swapped_code : BinaryOp → Code
+    swapped_code o = followed f (joined a b)
+        (op.Binary o (register (next_register f (joined a b))) (register b.result) (operand.Register (register a.result))) B4
+
+    pair-of : (o : BinaryOp) (meant : ℕ → ℕ → ℕ)
+        → ((x y : ℕ) → x < 2 ^ 32 → y < 2 ^ 32 → (binary_value o x y ≡ meant x y) × (meant x y < 2 ^ 32))
+        → Evaluates r c f a IsNumber (word s) run nodes (least_hand + spare) → Evaluates r c (behind f a) b IsNumber (word t) second others back
+        → 442 + left ≤ spare + back
+        → Evaluates r c f (pair_code o) IsValue (word u) (both run second (λ x y. number_value (meant x y))) (nodes + others) left
+    pair-of o meant agrees first then' paid =
+        let k : OpKind =
+            op.Binary o (register (next_register f (joined a b))) (register a.result) (operand.Register (register b.result)) in
+        let most = binary-charge o (register (next_register f (joined a b))) (register a.result) (operand.Register (register b.result)) in
+        both-op r c call IsNumber IsNumber IsValue f a b (word s) (word t) (word u) run second nodes others spare back left
+        (λ x y. number_value (meant x y)) k first then' (omega (arith, paid, most))
+        (λ homes state x y d e m n is js held also reg other.
+            let l = number-held (record { width = B4; sign = s }) homes x d m is held in
+            let h = number-held (record { width = B4; sign = t }) homes y e n js also in
+            let right = agrees x y l.1 h.1 in
+            let same : binary_value o m n ≡ meant x y =
+                ap (λ i. binary_value o i n) l.0 ∙ (ap (λ i. binary_value o x i) h.0 ∙ right.0) in
+            (Some (Number (meant x y)), Number (meant x y), binary_value o m n, refl, refl,
+            got state (register a.result) m _ reg ∙ got state (register b.result) n _ other,
+            computed u homes (meant x y) (binary_value o m n) same right.1))
+
+    swapped-of : (o : BinaryOp) (meant : ℕ → ℕ → ℕ)
+        → ((x y : ℕ) → x < 2 ^ 32 → y < 2 ^ 32 → (binary_value o y x ≡ meant x y) × (meant x y < 2 ^ 32))
+        → Evaluates r c f a IsNumber (word s) run nodes (least_hand + spare) → Evaluates r c (behind f a) b IsNumber (word t) second others back
+        → 442 + left ≤ spare + back
+        → Evaluates r c f (swapped_code o) IsValue (word u) (both run second (λ x y. number_value (meant x y))) (nodes + others) left
+    swapped-of o meant agrees first then' paid =
+        let k : OpKind =
+            op.Binary o (register (next_register f (joined a b))) (register b.result) (operand.Register (register a.result)) in
+        let most = binary-charge o (register (next_register f (joined a b))) (register b.result) (operand.Register (register a.result)) in
+        both-op r c call IsNumber IsNumber IsValue f a b (word s) (word t) (word u) run second nodes others spare back left
+        (λ x y. number_value (meant x y)) k first then' (omega (arith, paid, most))
+        (λ homes state x y d e m n is js held also reg other.
+            let l = number-held (record { width = B4; sign = s }) homes x d m is held in
+            let h = number-held (record { width = B4; sign = t }) homes y e n js also in
+            let right = agrees x y l.1 h.1 in
+            let same : binary_value o n m ≡ meant x y =
+                ap (λ i. binary_value o i m) h.0 ∙ (ap (λ i. binary_value o y i) l.0 ∙ right.0) in
+            (Some (Number (meant x y)), Number (meant x y), binary_value o n m, refl, refl,
+            got state (register b.result) n _ other ∙ got state (register a.result) m _ reg,
+            computed u homes (meant x y) (binary_value o n m) same right.1))
+
+    -- a binary operator
+    pub binary-of : (o : BinaryOperator) (sign : Sign)
+        → Evaluates r c f a IsNumber (word s) run nodes (least_hand + spare) → Evaluates r c (behind f a) b IsNumber (word t) second others back
+        → 442 + left ≤ spare + back
+        → Evaluates r c f (pair_code (operation o sign)) IsValue (word u) (both run second (λ x y. number_value (binary o sign x y)))
+            (nodes + others) left
+    binary-of o sign = pair-of (operation o sign) (binary o sign) (λ x y less more. (binary-agrees o sign x y, binary-below o sign x y less more))
+
+    -- `__lmbd`
+    pub leftmost-of : Evaluates r c f a IsNumber (word s) run nodes (least_hand + spare)
+        → Evaluates r c (behind f a) b IsNumber (word t) second others back → 442 + left ≤ spare + back
+        → Evaluates r c f (pair_code two.LeftmostBit) IsValue (word u) (both run second (λ x y. number_value (leftmost_bit x y)))
+            (nodes + others) left
+    leftmost-of = pair-of two.LeftmostBit leftmost_bit (λ x y less more. (leftmost-agrees x y, leftmost-below x y))
+
+    -- a comparison
+    abbrev pub comparison_code : ComparisonOperator → Sign → Code
+    comparison_code o sign = if is_swapped o then swapped_code (comparing o sign) else pair_code (comparing o sign)
+
+    pub comparison-of : (o : ComparisonOperator) (sign : Sign)
+        → Evaluates r c f a IsNumber (word s) run nodes (least_hand + spare) → Evaluates r c (behind f a) b IsNumber (word t) second others back
+        → 442 + left ≤ spare + back
+        → Evaluates r c f (comparison_code o sign) IsValue (word u) (both run second (λ x y. number_value (comparison o sign x y)))
+            (nodes + others) left
+    comparison-of o sign first then' paid = chosen (is_swapped o) (comparison-agrees o sign)
+      where
+        chosen : (b' : Bool) → ((x y : ℕ) → x < 2 ^ 32 → y < 2 ^ 32
+            → (if b' then binary_value (comparing o sign) y x else binary_value (comparing o sign) x y) ≡ comparison o sign x y)
+            → Evaluates r c f (if b' then swapped_code (comparing o sign) else pair_code (comparing o sign)) IsValue (word u)
+                (both run second (λ x y. number_value (comparison o sign x y))) (nodes + others) left
+        chosen true agrees = swapped-of (comparing o sign) (comparison o sign)
+            (λ x y less more. (agrees x y less more, truth-below _)) first then' paid
+        chosen false agrees = pair-of (comparing o sign) (comparison o sign)
+            (λ x y less more. (agrees x y less more, truth-below _)) first then' paid
+
+pub ruleset piece_rules = (constant-of)

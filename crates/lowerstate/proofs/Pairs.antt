@@ -18,10 +18,10 @@ use Rattle.lowerstate.specs.Counted.{Counted, counted}
 use Rattle.lowerstate.specs.Held.{Meant, meant_width, Home, Held}
 use Rattle.lowerstate.specs.Related.{Fixed, Call, IsCall, Kept, Point, homes_with, Related}
 use Rattle.lowerstate.specs.Stands.{Ends, Does}
-use Rattle.lowerstate.specs.Piece.{Code, Free, behind, joined, next_register, followed, least_hand, IsIn, IsReady, onwards, Given, Evaluates}
+use Rattle.lowerstate.specs.Piece.{Code, Free, behind, joined, next_register, followed, least_hand, IsIn, IsReady, onwards, Given, Evaluates, register}
 use Rattle.lowerstate.proofs.Laws.{written, wrote}
 use Rattle.lowerstate.proofs.Places.{stands-at, stands-first, stands-left, stands-right, one-longer, get-last}
-use Rattle.lowerstate.proofs.Pieces.{register, below-more, adjust}
+use Rattle.lowerstate.proofs.Pieces.{below-more, adjust}
 
 module _ (r : Fixed) (c : Call) (call : IsCall r c) {A B C : Type 0} (Is : A → Datum → Type 0) (Js : B → Datum → Type 0)
     (Ks : C → Datum → Type 0) (f : Free) (a b : Code) (t u w : Meant) (run : Run A) (second : Run B) (nodes others spare back left : ℕ)

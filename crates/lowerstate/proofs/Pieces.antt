@@ -19,14 +19,11 @@ use Rattle.cmean.specs.State.{State, Run, give, then_with, then_do, tick, node}
 use Rattle.cmean.specs.Expression.{both}
 use Rattle.lowerstate.specs.Counted.{Counted, counted}
 use Rattle.lowerstate.specs.Held.{Meant, meant_width, Home, Held}
-use Rattle.lowerstate.specs.Related.{Fixed, Call, IsCall, Kept, Point, homes_with, IsKept, Related}
+use Rattle.lowerstate.specs.Related.{Fixed, Call, IsCall, Kept, Point, homes_with, IsKept, Related, stepped}
 use Rattle.lowerstate.specs.Stands.{Ends, Does}
-use Rattle.lowerstate.specs.Piece.{Code, Free, behind, joined, next_register, followed, StandsAt, IsIn, IsReady, onwards, Given, Evaluates}
-use Rattle.lowerstate.proofs.Laws.{tick-does, stepped, written, width-at, wrote}
+use Rattle.lowerstate.specs.Piece.{Code, Free, behind, joined, next_register, followed, StandsAt, IsIn, IsReady, onwards, Given, Evaluates, register}
+use Rattle.lowerstate.proofs.Laws.{tick-does, written, width-at, wrote}
 use Rattle.lowerstate.proofs.Places.{stands-at, stands-first, stands-left, stands-right, one-longer, get-last}
-
-abbrev pub register : ℕ → VReg
-register n = record { 0 = n }
 
 -- what is in hand behind every node
 abbrev pub node_back : ℕ

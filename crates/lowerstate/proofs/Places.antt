@@ -4,7 +4,7 @@ use Rattle.std.proofs.Common.{Option, Some, slice_get, append_assoc, length-appe
 use Rattle.lowerstate.specs.Piece.{StandsAt}
 
 module _ {A : Type 0} where
-  get-further : (front xs : List A) (i : ℕ) → slice_get (front ++ xs) (length front + i) ≡ slice_get xs i
+  pub get-further : (front xs : List A) (i : ℕ) → slice_get (front ++ xs) (length front + i) ≡ slice_get xs i
   get-further [] xs i = let e : length {A = A} [] + i ≡ i = omega arith in ap (λ n. slice_get xs n) e
   get-further (x ∷ front) xs i =
       let e : length (x ∷ front) + i ≡ suc (length front + i) = omega arith in

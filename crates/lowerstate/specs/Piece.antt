@@ -2,11 +2,15 @@
 use Rattle.std.specs.Prelude.{ℕ, ◌≡◌, ◌+◌, ◌<◌, ◌≤◌, List, [], ◌∷◌, ◌++◌, length, Option, Some, slice_get}
 use Rattle.std.specs.List.{AllByRecursion}
 use Rattle.prunum.specs.declared.width.Width.{Width}
+use Rattle.prunum.specs.declared.width.Width.TheVariants.{B4}
+use Rattle.csyn.specs.declared.specifiers.Sign.{Sign}
+use Rattle.midcode.specs.declared.register.VReg.{VReg}
 use Rattle.midcode.specs.declared.op.OpKind.{OpKind}
+use Rattle.midcode.specs.declared.op.OpKind.TheVariants as op
 use Rattle.cmean.specs.Datum.{Datum, Number}
 use Rattle.cmean.specs.State.{State, Run}
 use Rattle.lowerstate.specs.Counted.{Counted}
-use Rattle.lowerstate.specs.Held.{Meant, meant_width}
+use Rattle.lowerstate.specs.Held.{Meant, OfInteger, meant_width}
 use Rattle.lowerstate.specs.Related.{Fixed, Call, Kept, Point, Related}
 use Rattle.lowerstate.specs.Stands.{Does}
 
@@ -100,3 +104,15 @@ IsDatum e d = e ≡ d
 
 abbrev pub IsNumber : ℕ → Datum → Type 0
 IsNumber n d = d ≡ Number n
+
+-- ---- numbers
+
+-- those of four bytes, as arithmetic has them
+abbrev pub word : Sign → Meant
+word sign = OfInteger (record { width = B4; sign = sign })
+
+abbrev pub register : ℕ → VReg
+register n = record { 0 = n }
+
+abbrev pub constant_code : Free → ℕ → Code
+constant_code f n = record { ops = op.Constant (register f.register) n ∷ []; widths = B4 ∷ []; labels = 0; result = f.register }

@@ -115,3 +115,7 @@ module _ (r : Fixed) where
     pub paid : m.state.charge + 100 + x.hand ≤ 512 * s.steps
     pub late : s.steps ≤ r.most * m.least + x.owed
     pub left : s.steps ≤ r.budget
+
+-- behind a step: it pays 512 cycles, and is one more since the last solid operation
+abbrev pub stepped : Point → ℕ → Point
+stepped x hand = record x { hand = hand; owed = x.owed + 1 }
