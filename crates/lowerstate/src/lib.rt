@@ -2,5 +2,6 @@
 //! piece of code does.
 #![tactic(auto)]
 
-/// Nothing yet.
-pub fn nothing() {}
+mod theorems;
+
+pub use theorems::{acts, constants};
