@@ -80,7 +80,7 @@ module _ (r : Fixed) (c : Call) where
     undefined-does span cause x s m few related =
         in_budget-does (λ budget t. Stopped (stop.Undefined (record { span = span; cause = cause })) t) x s m few related
         (λ _. simulates-here (counted r.program r.addresses) (Ends r) D
-            (Stopped (stop.Undefined (record { span = span; cause = cause })) s) m (even x s m few related))
+        (Stopped (stop.Undefined (record { span = span; cause = cause })) s) m (even x s m few related))
 
   one-more : (x : Point) (s : State) (m : Counted) (hand : ℕ) → hand ≤ x.hand + 512 → s.steps < r.budget → Related r c x s m
       → Related r c (stepped x hand) (record s { steps = suc s.steps }) m
@@ -107,16 +107,18 @@ module _ (r : Fixed) (c : Call) where
   tick-does x s m hand most few related =
       in_budget-does (λ _. Related r c (stepped x hand)) (change (λ s. record s { steps = suc s.steps })) x s m few related
       (λ below. simulates-here (counted r.program r.addresses) (Ends r) (λ _. Related r c (stepped x hand))
-          (Done tt (record s { steps = suc s.steps })) m (one-more x s m hand most below related))
+      (Done tt (record s { steps = suc s.steps })) m (one-more x s m hand most below related))
 
 -- ---- operations
 
 -- a register is written and the operation behind is next
 abbrev pub written : Program → VReg → ℕ → machine.State → machine.State
-written p to n s = record s { frame = record s.frame {
-  place = s.frame.place + 1;
-  registers = with_register s.frame.registers to.0 (wrap (width_of p s to) n);
-} }
+written p to n s = record s {
+  frame = record s.frame {
+    place = s.frame.place + 1;
+    registers = with_register s.frame.registers to.0 (wrap (width_of p s to) n);
+  };
+}
 
 size-width : (w : Width) → width_of_size (size_of (Some w)) ≡ w
 size-width B1 = refl
@@ -192,28 +194,29 @@ module _ (r : Fixed) (c : Call) (call : IsCall r c) where
       → charge k + hand ≤ x.hand
       → (m' : Counted) × Reaches (counted r.program r.addresses) m m'
       × Related r c (record x { place = x.place + 1; kept = record { register = q.0; meant = t; datum = d } ∷ kept; hand = hand }) s m'
-  wrote x s m k q w t d n hand kept related is width free below holds does held paid =
-      (counted_to m (written r.program q n (charged k m.state)),
-      op-reaches m k (written r.program q n (charged k m.state)) (op-at x s m k related is) does,
-      record {
-        later = related.later;
-        place = ap (λ n. n + 1) related.place;
-        function = related.function;
-        callers = related.callers;
-        locals = related.locals;
-        events = related.events;
-        values = related.values;
-        stored = related.stored;
-        variables = λ i p u e home leaf.
-            let old = related.variables i p u e home leaf in
-            (old.0, with-other m.state.frame.registers q.0 v p (let own = (call.local i p u home).0 in omega (arith, own, free)) ∙ old.1, old.2);
-        outer = related.outer;
-        kept = ((v, with-same m.state.frame.registers q.0 v, new), kept-below (homes_with c related.later) m.state.frame.registers q.0 v kept below holds);
-        paid = let before = related.paid in omega (arith, before, paid);
-        late = late-more r.most m.least (least_at (running r.program m.state) m.state.frame.place
-            (slice_get (running r.program m.state) m.state.frame.place)) s.steps x.owed related.late;
-        left = related.left;
-      })
+  wrote x s m k q w t d n hand kept related is width free below holds does held paid = (
+    counted_to m (written r.program q n (charged k m.state)),
+    op-reaches m k (written r.program q n (charged k m.state)) (op-at x s m k related is) does,
+    record {
+      later = related.later;
+      place = ap (λ n. n + 1) related.place;
+      function = related.function;
+      callers = related.callers;
+      locals = related.locals;
+      events = related.events;
+      values = related.values;
+      stored = related.stored;
+      variables = λ i p u e home leaf.
+          let old = related.variables i p u e home leaf in
+          (old.0, with-other m.state.frame.registers q.0 v p (let own = (call.local i p u home).0 in omega (arith, own, free)) ∙ old.1, old.2);
+      outer = related.outer;
+      kept = ((v, with-same m.state.frame.registers q.0 v, new), kept-below (homes_with c related.later) m.state.frame.registers q.0 v kept below holds);
+      paid = let before = related.paid in omega (arith, before, paid);
+      late = late-more r.most m.least (least_at (running r.program m.state) m.state.frame.place
+          (slice_get (running r.program m.state) m.state.frame.place)) s.steps x.owed related.late;
+      left = related.left;
+    },
+  )
     where
       v : ℕ
       v = wrap (width_of r.program (charged k m.state) q) n

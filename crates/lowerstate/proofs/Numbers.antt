@@ -71,16 +71,21 @@ module _ (r : Fixed) (c : Call) where
   number-of f code t run nodes back first =
       next-same r c {Is = IsDatum} {Is' = IsNumber} f code (OfInteger t) (OfInteger t) run nodes back number_in first refl
       (λ homes a d v is held.
-          let found = number-at t homes d v held in
-          (found.0, d, ap number_in is ∙ found.1, found.2, held))
+      let found = number-at t homes d v held in
+      (found.0, d, ap number_in is ∙ found.1, found.2, held))
 
   -- a number that is of one of the two types is of the other
   plus-of : (f : Free) (code : Code) (s t : Sign) (run : Run ℕ) (nodes back : ℕ) → Evaluates r c f code IsNumber (word s) run nodes back
       → Evaluates r c f code IsValue (word t) (then_with run (λ n. number_value (unary Plus n))) nodes back
   plus-of f code s t run nodes back first =
       next-same r c {Is = IsNumber} {Is' = IsValue} f code (word s) (word t) run nodes back (λ n. number_value (unary Plus n)) first refl
-      (λ homes n d v is held. (Some (Number n), Number n, refl, refl,
-          subst (λ (e : Datum). Held r.layouts homes (word s) e v) is held))
+      (λ homes n d v is held. (
+        Some (Number n),
+        Number n,
+        refl,
+        refl,
+        subst (λ (e : Datum). Held r.layouts homes (word s) e v) is held,
+      ))
 
 -- ---- constants
 
@@ -93,14 +98,17 @@ module _ (r : Fixed) (c : Call) (call : IsCall r c) where
         let k : OpKind = op.Constant (register f.register) n in
         let in_hand = ready.in_hand in
         let done = wrote r c call x s m k (register f.register) B4 (word sign) (Number n) n (hand + 59) x.kept related
-            (stands-first c.ops [] x.place k stands.ops) (stands-first c.widths [] f.register B4 stands.widths) stands.free ready.kept
-            related.kept refl (wrap-small B4 n small, small) (omega (arith, in_hand)) in
+        (stands-first c.ops [] x.place k stands.ops) (stands-first c.widths [] f.register B4 stands.widths) stands.free ready.kept
+        related.kept refl (wrap-small B4 n small, small) (omega (arith, in_hand)) in
         simulates-from (counted r.program r.addresses) (Ends r) (Given r c (constant_code f n) IsValue (word sign) 0 59 x hand)
         (Done (Some (Number n)) s) m done.0 done.1
         (simulates-here (counted r.program r.addresses) (Ends r) (Given r c (constant_code f n) IsValue (word sign) 0 59 x hand)
-        (Done (Some (Number n)) s) done.0
-        (Number n, refl, adjust r c _ (onwards x (constant_code f n) 0 hand 59 (word sign) (Number n)) s done.0 refl (omega arith)
-            (omega arith) done.2 done.2.kept));
+        (Done (Some (Number n)) s) done.0 (
+          Number n,
+          refl,
+          adjust r c _ (onwards x (constant_code f n) 0 hand 59 (word sign) (Number n)) s done.0 refl (omega arith)
+              (omega arith) done.2 done.2.kept,
+        ));
   }
 
   -- ---- operators
@@ -116,31 +124,41 @@ module _ (r : Fixed) (c : Call) (call : IsCall r c) where
   pub minus-of : (f : Free) (code : Code) (s t : Sign) (run : Run ℕ) (nodes left : ℕ)
       → Evaluates r c f code IsNumber (word s) run nodes (left + 9)
       → Evaluates r c f (followed f code (op.Unary one.Negate (register (next_register f code)) (register code.result)) B4)
-          IsValue (word t) (then_with run (λ n. number_value (unary Minus n))) nodes left
+      IsValue (word t) (then_with run (λ n. number_value (unary Minus n))) nodes left
   minus-of f code s t run nodes left first =
       next-op r c call {Is = IsNumber} {Is' = IsValue} f code (word s) (word t) run nodes (left + 9) left (λ n. number_value (unary Minus n))
       (op.Unary one.Negate (register (next_register f code)) (register code.result)) first (omega arith)
       (λ homes m n d v is held reg width.
-          let at = number-held (record { width = B4; sign = s }) homes n d v is held in
-          let agrees = unary-agrees-minus n in
-          (Some (Number (unary Minus n)), Number (unary Minus n), unary_value one.Negate v, refl, refl,
-          got m (register code.result) v _ reg,
-          computed t homes (unary Minus n) (unary_value one.Negate v) (ap (unary_value one.Negate) at.0 ∙ agrees.0) agrees.1))
+      let at = number-held (record { width = B4; sign = s }) homes n d v is held in
+      let agrees = unary-agrees-minus n in (
+        Some (Number (unary Minus n)),
+        Number (unary Minus n),
+        unary_value one.Negate v,
+        refl,
+        refl,
+        got m (register code.result) v _ reg,
+        computed t homes (unary Minus n) (unary_value one.Negate v) (ap (unary_value one.Negate) at.0 ∙ agrees.0) agrees.1,
+      ))
 
   pub complement-of : (f : Free) (code : Code) (s t : Sign) (run : Run ℕ) (nodes left : ℕ)
       → Evaluates r c f code IsNumber (word s) run nodes (left + 9)
       → Evaluates r c f (followed f code (op.Unary one.Complement (register (next_register f code)) (register code.result)) B4)
-          IsValue (word t) (then_with run (λ n. number_value (unary Complement n))) nodes left
+      IsValue (word t) (then_with run (λ n. number_value (unary Complement n))) nodes left
   complement-of f code s t run nodes left first =
       next-op r c call {Is = IsNumber} {Is' = IsValue} f code (word s) (word t) run nodes (left + 9) left
       (λ n. number_value (unary Complement n))
       (op.Unary one.Complement (register (next_register f code)) (register code.result)) first (omega arith)
       (λ homes m n d v is held reg width.
-          let at = number-held (record { width = B4; sign = s }) homes n d v is held in
-          let agrees = unary-agrees-complement n in
-          (Some (Number (unary Complement n)), Number (unary Complement n), unary_value one.Complement v, refl, refl,
-          got m (register code.result) v _ reg,
-          computed t homes (unary Complement n) (unary_value one.Complement v) (ap (unary_value one.Complement) at.0 ∙ agrees.0) agrees.1))
+      let at = number-held (record { width = B4; sign = s }) homes n d v is held in
+      let agrees = unary-agrees-complement n in (
+        Some (Number (unary Complement n)),
+        Number (unary Complement n),
+        unary_value one.Complement v,
+        refl,
+        refl,
+        got m (register code.result) v _ reg,
+        computed t homes (unary Complement n) (unary_value one.Complement v) (ap (unary_value one.Complement) at.0 ∙ agrees.0) agrees.1,
+      ))
 
   -- an operation on two numbers, where it computes what is meant
   module _ (f : Free) (a b : Code) (s t u : Sign) (run : Run ℕ) (second : Run ℕ) (nodes others spare back left : ℕ) where
@@ -160,19 +178,24 @@ module _ (r : Fixed) (c : Call) (call : IsCall r c) where
         → Evaluates r c f (pair_code o) IsValue (word u) (both run second (λ x y. number_value (meant x y))) (nodes + others) left
     pair-of o meant agrees first then' paid =
         let k : OpKind =
-            op.Binary o (register (next_register f (joined a b))) (register a.result) (operand.Register (register b.result)) in
+        op.Binary o (register (next_register f (joined a b))) (register a.result) (operand.Register (register b.result)) in
         let most = binary-charge o (register (next_register f (joined a b))) (register a.result) (operand.Register (register b.result)) in
         both-op r c call IsNumber IsNumber IsValue f a b (word s) (word t) (word u) run second nodes others spare back left
         (λ x y. number_value (meant x y)) k first then' (omega (arith, paid, most))
         (λ homes state x y d e m n is js held also reg other.
-            let l = number-held (record { width = B4; sign = s }) homes x d m is held in
-            let h = number-held (record { width = B4; sign = t }) homes y e n js also in
-            let right = agrees x y l.1 h.1 in
-            let same : binary_value o m n ≡ meant x y =
-                ap (λ i. binary_value o i n) l.0 ∙ (ap (λ i. binary_value o x i) h.0 ∙ right.0) in
-            (Some (Number (meant x y)), Number (meant x y), binary_value o m n, refl, refl,
-            got state (register a.result) m _ reg ∙ got state (register b.result) n _ other,
-            computed u homes (meant x y) (binary_value o m n) same right.1))
+        let l = number-held (record { width = B4; sign = s }) homes x d m is held in
+        let h = number-held (record { width = B4; sign = t }) homes y e n js also in
+        let right = agrees x y l.1 h.1 in
+        let same : binary_value o m n ≡ meant x y =
+        ap (λ i. binary_value o i n) l.0 ∙ (ap (λ i. binary_value o x i) h.0 ∙ right.0) in (
+          Some (Number (meant x y)),
+          Number (meant x y),
+          binary_value o m n,
+          refl,
+          refl,
+          got state (register a.result) m _ reg ∙ got state (register b.result) n _ other,
+          computed u homes (meant x y) (binary_value o m n) same right.1,
+        ))
 
     swapped-of : (o : BinaryOp) (meant : ℕ → ℕ → ℕ)
         → ((x y : ℕ) → x < 2 ^ 32 → y < 2 ^ 32 → (binary_value o y x ≡ meant x y) × (meant x y < 2 ^ 32))
@@ -181,33 +204,38 @@ module _ (r : Fixed) (c : Call) (call : IsCall r c) where
         → Evaluates r c f (swapped_code o) IsValue (word u) (both run second (λ x y. number_value (meant x y))) (nodes + others) left
     swapped-of o meant agrees first then' paid =
         let k : OpKind =
-            op.Binary o (register (next_register f (joined a b))) (register b.result) (operand.Register (register a.result)) in
+        op.Binary o (register (next_register f (joined a b))) (register b.result) (operand.Register (register a.result)) in
         let most = binary-charge o (register (next_register f (joined a b))) (register b.result) (operand.Register (register a.result)) in
         both-op r c call IsNumber IsNumber IsValue f a b (word s) (word t) (word u) run second nodes others spare back left
         (λ x y. number_value (meant x y)) k first then' (omega (arith, paid, most))
         (λ homes state x y d e m n is js held also reg other.
-            let l = number-held (record { width = B4; sign = s }) homes x d m is held in
-            let h = number-held (record { width = B4; sign = t }) homes y e n js also in
-            let right = agrees x y l.1 h.1 in
-            let same : binary_value o n m ≡ meant x y =
-                ap (λ i. binary_value o i m) h.0 ∙ (ap (λ i. binary_value o y i) l.0 ∙ right.0) in
-            (Some (Number (meant x y)), Number (meant x y), binary_value o n m, refl, refl,
-            got state (register b.result) n _ other ∙ got state (register a.result) m _ reg,
-            computed u homes (meant x y) (binary_value o n m) same right.1))
+        let l = number-held (record { width = B4; sign = s }) homes x d m is held in
+        let h = number-held (record { width = B4; sign = t }) homes y e n js also in
+        let right = agrees x y l.1 h.1 in
+        let same : binary_value o n m ≡ meant x y =
+        ap (λ i. binary_value o i m) h.0 ∙ (ap (λ i. binary_value o y i) l.0 ∙ right.0) in (
+          Some (Number (meant x y)),
+          Number (meant x y),
+          binary_value o n m,
+          refl,
+          refl,
+          got state (register b.result) n _ other ∙ got state (register a.result) m _ reg,
+          computed u homes (meant x y) (binary_value o n m) same right.1,
+        ))
 
     -- a binary operator
     pub binary-of : (o : BinaryOperator) (sign : Sign)
         → Evaluates r c f a IsNumber (word s) run nodes (least_hand + spare) → Evaluates r c (behind f a) b IsNumber (word t) second others back
         → 442 + left ≤ spare + back
         → Evaluates r c f (pair_code (operation o sign)) IsValue (word u) (both run second (λ x y. number_value (binary o sign x y)))
-            (nodes + others) left
+        (nodes + others) left
     binary-of o sign = pair-of (operation o sign) (binary o sign) (λ x y less more. (binary-agrees o sign x y, binary-below o sign x y less more))
 
     -- `__lmbd`
     pub leftmost-of : Evaluates r c f a IsNumber (word s) run nodes (least_hand + spare)
         → Evaluates r c (behind f a) b IsNumber (word t) second others back → 442 + left ≤ spare + back
         → Evaluates r c f (pair_code two.LeftmostBit) IsValue (word u) (both run second (λ x y. number_value (leftmost_bit x y)))
-            (nodes + others) left
+        (nodes + others) left
     leftmost-of = pair-of two.LeftmostBit leftmost_bit (λ x y less more. (leftmost-agrees x y, leftmost-below x y))
 
     -- a comparison
@@ -218,13 +246,13 @@ module _ (r : Fixed) (c : Call) (call : IsCall r c) where
         → Evaluates r c f a IsNumber (word s) run nodes (least_hand + spare) → Evaluates r c (behind f a) b IsNumber (word t) second others back
         → 442 + left ≤ spare + back
         → Evaluates r c f (comparison_code o sign) IsValue (word u) (both run second (λ x y. number_value (comparison o sign x y)))
-            (nodes + others) left
+        (nodes + others) left
     comparison-of o sign first then' paid = chosen (is_swapped o) (comparison-agrees o sign)
       where
         chosen : (b' : Bool) → ((x y : ℕ) → x < 2 ^ 32 → y < 2 ^ 32
             → (if b' then binary_value (comparing o sign) y x else binary_value (comparing o sign) x y) ≡ comparison o sign x y)
             → Evaluates r c f (if b' then swapped_code (comparing o sign) else pair_code (comparing o sign)) IsValue (word u)
-                (both run second (λ x y. number_value (comparison o sign x y))) (nodes + others) left
+            (both run second (λ x y. number_value (comparison o sign x y))) (nodes + others) left
         chosen true agrees = swapped-of (comparing o sign) (comparison o sign)
             (λ x y less more. (agrees x y less more, truth-below _)) first then' paid
         chosen false agrees = pair-of (comparing o sign) (comparison o sign)

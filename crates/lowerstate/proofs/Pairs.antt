@@ -70,27 +70,29 @@ module _ (r : Fixed) (c : Call) (call : IsCall r c) {A B C : Type 0} (Is : A →
       let q : VReg = register (next_register f code) in
       let more = length-append a.ops b.ops in
       let new = joins (homes_with c related.later) (charged k m.state) i j d e related.kept.1.0.0 related.kept.0.0 is js
-          related.kept.1.0.2 related.kept.0.2 related.kept.1.0.1 related.kept.0.1 in
+      related.kept.1.0.2 related.kept.0.2 related.kept.1.0.1 related.kept.0.1 in
       let at-op : slice_get c.ops (x.place + length code.ops) ≡ Some k =
-          stands-first c.ops [] (x.place + length code.ops) k (stands-right c.ops code.ops (k ∷ []) x.place stands.ops) in
+      stands-first c.ops [] (x.place + length code.ops) k (stands-right c.ops code.ops (k ∷ []) x.place stands.ops) in
       let same-place : x.place + length a.ops + length b.ops ≡ x.place + length code.ops = omega (arith, more) in
       let done = wrote r c call y s m k q (meant_width w) w new.1 new.2 (hand + left) x.kept related
-          (ap (λ n. slice_get c.ops n) same-place ∙ at-op)
-          (stands-first c.widths [] (f.register + length code.widths) (meant_width w)
-              (stands-right c.widths code.widths (meant_width w ∷ []) f.register stands.widths))
-          (let free = stands.free in omega (arith, free))
-          (below-more x.kept f.register (next_register f code) (omega arith) ready.kept)
-          related.kept.1.1 new.5 new.6 (omega (arith, paid)) in
+      (ap (λ n. slice_get c.ops n) same-place ∙ at-op)
+      (stands-first c.widths [] (f.register + length code.widths) (meant_width w)
+      (stands-right c.widths code.widths (meant_width w ∷ []) f.register stands.widths))
+      (let free = stands.free in omega (arith, free))
+      (below-more x.kept f.register (next_register f code) (omega arith) ready.kept)
+      related.kept.1.1 new.5 new.6 (omega (arith, paid)) in
       subst (λ run. Does r (Given r c all Ks w (nodes + others) left x hand) run m) (sym (ap (λ g. g r.budget s) new.3))
       (simulates-from (counted r.program r.addresses) (Ends r) (Given r c all Ks w (nodes + others) left x hand) (Done new.0 s) m done.0 done.1
-      (simulates-here (counted r.program r.addresses) (Ends r) (Given r c all Ks w (nodes + others) left x hand) (Done new.0 s) done.0
-      (new.1, new.4,
-      adjust r c (record y {
+      (simulates-here (counted r.program r.addresses) (Ends r) (Given r c all Ks w (nodes + others) left x hand) (Done new.0 s) done.0 (
+        new.1,
+        new.4,
+        adjust r c (record y {
           place = x.place + length a.ops + length b.ops + 1;
           kept = record { register = next_register f code; meant = w; datum = new.1 } ∷ x.kept;
           hand = hand + left;
-      }) (onwards x all (nodes + others) hand left w new.1) s done.0
-          (let long = one-longer code.ops k in omega (arith, long, more)) (omega arith) (omega arith) done.2 done.2.kept)))
+        }) (onwards x all (nodes + others) hand left w new.1) s done.0
+            (let long = one-longer code.ops k in omega (arith, long, more)) (omega arith) (omega arith) done.2 done.2.kept,
+      )))
 
   b-ready : Evaluates r c f a Is t run nodes (least_hand + spare) → (x : Point) (hand : ℕ) (d : Datum)
       → IsReady r f (nodes + others) hand x → IsReady r (behind f a) others (hand + spare) (middle x hand d)
@@ -98,9 +100,10 @@ module _ (r : Fixed) (c : Call) (call : IsCall r c) {A B C : Type 0} (Is : A →
     in_hand = omega arith;
     owed = let owed = ready.owed in omega (arith, owed);
     kept = (
-        (let result = first.typed.1 in
-        let within = slice_get_within a.widths first.typed.0 (meant_width t) first.typed.2 in omega (arith, result, within)),
-        below-more x.kept f.register (f.register + length a.widths) (omega arith) ready.kept);
+      (let result = first.typed.1 in
+          let within = slice_get_within a.widths first.typed.0 (meant_width t) first.typed.2 in omega (arith, result, within)),
+      below-more x.kept f.register (f.register + length a.widths) (omega arith) ready.kept,
+    );
   }
 
   pub both-op : Evaluates r c f a Is t run nodes (least_hand + spare) → Evaluates r c (behind f a) b Js u second others back
@@ -113,10 +116,10 @@ module _ (r : Fixed) (c : Call) (call : IsCall r c) {A B C : Type 0} (Is : A →
         (Given r c a Is t nodes (least_hand + spare) x hand) (Given r c all Ks w (nodes + others) left x hand)
         (run r.budget s) (λ i. then_with second (next i) r.budget) m
         (first.does x hand s m (a-place x.place stands)
-            (record { in_hand = ready.in_hand; owed = let owed = ready.owed in omega (arith, owed); kept = ready.kept }) related)
+        (record { in_hand = ready.in_hand; owed = let owed = ready.owed in omega (arith, owed); kept = ready.kept }) related)
         (λ i s m at. bind (counted r.program r.addresses) (Ends r)
-            (Given r c b Js u others back (middle x hand at.0) (hand + spare)) (Given r c all Ks w (nodes + others) left x hand)
-            (second r.budget s) (λ j. next i j r.budget) m
-            (then'.does (middle x hand at.0) (hand + spare) s m (b-place x.place stands) (b-ready first x hand at.0 ready) at.2)
-            (λ j s m on. last first paid joins x hand i j s m at.0 on.0 at.1 on.1 stands ready on.2));
+        (Given r c b Js u others back (middle x hand at.0) (hand + spare)) (Given r c all Ks w (nodes + others) left x hand)
+        (second r.budget s) (λ j. next i j r.budget) m
+        (then'.does (middle x hand at.0) (hand + spare) s m (b-place x.place stands) (b-ready first x hand at.0 ready) at.2)
+        (λ j s m on. last first paid joins x hand i j s m at.0 on.0 at.1 on.1 stands ready on.2));
   }

@@ -48,13 +48,16 @@ module _ (r : Fixed) (c : Call) {A B : Type 0} (Is : A → Datum → Type 0) (Js
       → Does r (Given r c (joined a b) Js u (nodes + others) (spare + back) x hand) (second r.budget s) m
   second-does then' x hand i s m stands ready at =
       let related : Related r c (between x hand) s m =
-          adjust r c (onwards x a nodes hand (least_hand + spare) t at.0) (between x hand) s m refl (omega arith) (omega arith) at.2 at.2.kept.1 in
+      adjust r c (onwards x a nodes hand (least_hand + spare) t at.0) (between x hand) s m refl (omega arith) (omega arith) at.2 at.2.kept.1 in
       simulates-weaker (counted r.program r.addresses) (Ends r) (Given r c b Js u others back (between x hand) (hand + spare))
       (Given r c (joined a b) Js u (nodes + others) (spare + back) x hand) (Ends r)
-      (λ j s m on. (on.0, on.1,
-          adjust r c (onwards (between x hand) b others (hand + spare) back u on.0)
-              (onwards x (joined a b) (nodes + others) hand (spare + back) u on.0) s m
-              (let more = length-append a.ops b.ops in omega (arith, more)) (omega arith) (omega arith) on.2 on.2.kept))
+      (λ j s m on. (
+        on.0,
+        on.1,
+        adjust r c (onwards (between x hand) b others (hand + spare) back u on.0)
+            (onwards x (joined a b) (nodes + others) hand (spare + back) u on.0) s m
+            (let more = length-append a.ops b.ops in omega (arith, more)) (omega arith) (omega arith) on.2 on.2.kept,
+      ))
       (λ cause s m ends. ends)
       (second r.budget s) m
       (then'.does (between x hand) (hand + spare) s m (b-place x.place stands) (b-ready x hand ready) related)
@@ -62,14 +65,16 @@ module _ (r : Fixed) (c : Call) {A B : Type 0} (Is : A → Datum → Type 0) (Js
   pub sequence-of : Evaluates r c f a Is t run nodes (least_hand + spare) → Evaluates r c (behind f a) b Js u second others back
       → Evaluates r c f (joined a b) Js u (then_do run second) (nodes + others) (spare + back)
   sequence-of first then' = record {
-    typed = (length a.widths + then'.typed.0,
-        then'.typed.1 ∙ (let e : f.register + length a.widths + then'.typed.0 ≡ f.register + (length a.widths + then'.typed.0) = omega arith in e),
-        behind-get a.widths then'.typed.0 ∙ then'.typed.2);
+    typed = (
+      length a.widths + then'.typed.0,
+      then'.typed.1 ∙ (let e : f.register + length a.widths + then'.typed.0 ≡ f.register + (length a.widths + then'.typed.0) = omega arith in e),
+      behind-get a.widths then'.typed.0 ∙ then'.typed.2,
+    );
     does = λ x hand s m stands ready related.
         bind (counted r.program r.addresses) (Ends r) (Given r c a Is t nodes (least_hand + spare) x hand)
         (Given r c (joined a b) Js u (nodes + others) (spare + back) x hand) (run r.budget s) (λ _. second r.budget) m
         (first.does x hand s m (a-place x.place stands)
-            (record { in_hand = ready.in_hand; owed = let owed = ready.owed in omega (arith, owed); kept = ready.kept }) related)
+        (record { in_hand = ready.in_hand; owed = let owed = ready.owed in omega (arith, owed); kept = ready.kept }) related)
         (λ i s m at. second-does then' x hand i s m stands ready at);
   }
     where

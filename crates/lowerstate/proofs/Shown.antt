@@ -21,7 +21,7 @@ shown_to e s = record s { events = s.events ++ e ∷ []; frame = record s.frame 
 module _ (r : Fixed) (c : Call) (call : IsCall r c) where
   shown : (x : Point) (s : State) (m : Counted) (k : OpKind) (e : Event) (hand : ℕ) → Related r c x s m → charge k + hand ≤ x.hand
       → Related r c (record x { place = x.place + 1; hand = hand }) (showing (suc s.steps) e s)
-          (counted_to r c call m (shown_to e (charged k m.state)))
+      (counted_to r c call m (shown_to e (charged k m.state)))
   shown x s m k e hand related paid = record {
     later = related.later;
     place = ap (λ n. n + 1) related.place;
@@ -50,7 +50,7 @@ module _ (r : Fixed) (c : Call) (call : IsCall r c) where
       in_budget-does r c (λ _. Related r c (record x { place = x.place + 1; hand = hand })) (change (λ s. showing (suc s.steps) e s)) x s m few
       related
       (λ _. simulates-from (counted r.program r.addresses) (Ends r) (λ _. Related r c (record x { place = x.place + 1; hand = hand }))
-          (Done tt (showing (suc s.steps) e s)) m (counted_to r c call m (shown_to e (charged k m.state)))
-          (op-reaches r c call m k (shown_to e (charged k m.state)) (op-at r c call x s m k related is) does)
-          (simulates-here (counted r.program r.addresses) (Ends r) (λ _. Related r c (record x { place = x.place + 1; hand = hand }))
-          (Done tt (showing (suc s.steps) e s)) (counted_to r c call m (shown_to e (charged k m.state))) (shown x s m k e hand related paid)))
+      (Done tt (showing (suc s.steps) e s)) m (counted_to r c call m (shown_to e (charged k m.state)))
+      (op-reaches r c call m k (shown_to e (charged k m.state)) (op-at r c call x s m k related is) does)
+      (simulates-here (counted r.program r.addresses) (Ends r) (λ _. Related r c (record x { place = x.place + 1; hand = hand }))
+      (Done tt (showing (suc s.steps) e s)) (counted_to r c call m (shown_to e (charged k m.state))) (shown x s m k e hand related paid)))

@@ -54,7 +54,7 @@ module _ (layouts : List Laid) (homes : List Home) where
     pub inside : start + p.count * element.bytes ≤ whole.bytes
     pub leaves : (i j : ℕ) (part : Part) → i < p.count → slice_get element.parts j ≡ Some part
         → slice_get whole.parts (p.first + i * length element.parts + j)
-            ≡ Some (record part { offset = start + i * element.bytes + part.offset })
+        ≡ Some (record part { offset = start + i * element.bytes + part.offset })
     pub range : p.index ≤ p.count
     pub leaf : p.leaf ≡ p.first + p.index * length element.parts
     pub byte : p.byte ≡ start + p.index * element.bytes
