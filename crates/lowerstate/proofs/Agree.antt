@@ -1,11 +1,11 @@
 -- Operations compute what operators of C mean.
 use Rattle.std.proofs.Common.{◌≡◌, ℕ, zero, suc, ◌+◌, ◌-◌, ◌*◌, ◌/◌, ◌%◌, ◌^◌, ◌<◌, ◌≤◌, ◌==◌, Bool, true, false, not}
-use Rattle.std.proofs.Common.{inl, inr, if◌then◌else◌, refl, sym, subst, ap, ◌∙◌, arith, lit<, lit≤, nat_lt, nat_le}
-use Rattle.std.specs.Prelude.{ℤ, pos, negsuc, bit_and, bit_or, bit_xor}
+use Rattle.std.proofs.Common.{inl, inr, if◌then◌else◌, refl, sym, ap, ◌∙◌, arith, lit<, lit≤}
+use Rattle.std.specs.Prelude.{ℤ, pos, negsuc}
 use Rattle.std.proofs.Math.Nat.{div-le_self, mod-le, mod-eq_of_lt}
 use Rattle.std.proofs.lemmas.Nat.{mod_below, and_le_l, or_of_32, xor_of_32}
 use Rattle.std.proofs.lemmas.Bool.{eq-eqb, ne_eqb, eqb-true, eqb-false, cases_Bool}
-use Rattle.prunum.specs.Number.{wrap, bit_count, wrap_signed, quot_u, quot_s, rem_u, rem_s, shr_s, sext}
+use Rattle.prunum.specs.Number.{wrap, bit_count, wrap_signed, quot_u, quot_s, rem_u, rem_s, shr_s}
 use Rattle.prunum.specs.declared.width.Width.{Width}
 use Rattle.prunum.specs.declared.width.Width.TheVariants.{B1, B2, B4}
 use Rattle.csyn.specs.declared.specifiers.Sign.{Sign}

@@ -1,19 +1,16 @@
 -- What the acts of the meaning and the operations of the machine do to related states.
-use Rattle.std.proofs.Common.{◌≡◌, ℕ, zero, suc, ◌+◌, ◌*◌, ◌<◌, ◌≤◌, ◌==◌, Bool, true, false, if◌then◌else◌, nat_lt, List, [], ◌∷◌}
-use Rattle.std.proofs.Common.{◌++◌, map, refl, sym, subst, ap, ◌∙◌, arith, Option, Some, None, slice_get, take}
+use Rattle.std.proofs.Common.{◌≡◌, ℕ, suc, ◌+◌, ◌*◌, ◌<◌, ◌≤◌, ◌==◌, Bool, true, false, if◌then◌else◌, nat_lt, List, [], ◌∷◌}
+use Rattle.std.proofs.Common.{map, refl, sym, subst, ap, ◌∙◌, arith, Option, Some, slice_get}
 use Rattle.std.specs.List.{AllByRecursion}
 use Rattle.std.proofs.lemmas.List.{append-nil}
 use Rattle.std.proofs.lemmas.Bool.{ltb-true, ltb-false, eq-eqb, ne_eqb}
 use Rattle.std.proofs.lemmas.Nat.{mul-le}
-use Rattle.behaviour.specs.declared.stop.Stop.{Stop}
 use Rattle.behaviour.specs.declared.stop.Stop.TheVariants as stop
-use Rattle.behaviour.specs.Ran.{Ran, Done, Stopped, and_then}
+use Rattle.behaviour.specs.Ran.{Done, Stopped}
 use Rattle.behaviour.specs.Machine.{Reaches}
-use Rattle.behaviour.specs.Simulates.{Simulates}
 use Rattle.behaviour.proofs.MachineLemmas.{reaches-step}
-use Rattle.behaviour.proofs.SimulatesLemmas.{simulates-here, simulates-from, bind}
+use Rattle.behaviour.proofs.SimulatesLemmas.{simulates-here}
 use Rattle.prunum.specs.Number.{wrap}
-use Rattle.prunum.specs.Width.{byte_count}
 use Rattle.prunum.specs.declared.width.Width.{Width}
 use Rattle.prunum.specs.declared.width.Width.TheVariants.{B1, B2, B4}
 use Rattle.csyn.specs.declared.span.Span.{Span}
@@ -27,12 +24,11 @@ use Rattle.midcode.specs.Machine.{Wild, with_register}
 use Rattle.midcode.specs.Meaning.{function_at, kinds_of_function, registers_of, running, width_of_size, width_of, effect}
 use Rattle.midcode.specs.Meaning.{charged, performed, step}
 use Rattle.cmean.specs.declared.undefined.UndefinedCause.{UndefinedCause}
-use Rattle.cmean.specs.declared.undefined.UndefinedStep.{UndefinedStep}
 use Rattle.cmean.specs.Datum.{Datum}
-use Rattle.cmean.specs.State.{State, Run, give, then_with, then_do, change, in_budget, tick, node, undefined}
+use Rattle.cmean.specs.State.{State, Run, change, in_budget, tick, undefined}
 use Rattle.lowerstate.specs.Counted.{Counted, counting, counted, least_at}
 use Rattle.lowerstate.specs.Held.{Meant, Held}
-use Rattle.lowerstate.specs.Related.{Fixed, Call, IsCall, Kept, Point, homes_with, Holds, IsKept, Related, stepped}
+use Rattle.lowerstate.specs.Related.{Fixed, Call, IsCall, Kept, Point, homes_with, IsKept, Related, stepped}
 use Rattle.lowerstate.specs.Stands.{IsEven, IsWaiting, Ends, Does}
 
 -- ---- acts of the meaning
@@ -92,7 +88,13 @@ module _ (r : Fixed) (c : Call) where
     locals = related.locals;
     events = related.events;
     values = related.values;
-    stored = record { all = related.stored.all; leaf = related.stored.leaf; room = related.stored.room; disjoint = related.stored.disjoint };
+    stored = record {
+      all = related.stored.all;
+      leaf = related.stored.leaf;
+      room = related.stored.room;
+      disjoint =
+          related.stored.disjoint;
+    };
     variables = related.variables;
     outer = related.outer;
     kept = related.kept;
@@ -207,10 +209,17 @@ module _ (r : Fixed) (c : Call) (call : IsCall r c) where
       values = related.values;
       stored = related.stored;
       variables = λ i p u e home leaf.
-          let old = related.variables i p u e home leaf in
-          (old.0, with-other m.state.frame.registers q.0 v p (let own = (call.local i p u home).0 in omega (arith, own, free)) ∙ old.1, old.2);
+          let old = related.variables i p u e home leaf in (
+            old.0,
+            with-other m.state.frame.registers q.0 v p (let own = (call.local i p u home).0 in omega (arith, own, free)) ∙ old.1,
+            old.2,
+          );
       outer = related.outer;
-      kept = ((v, with-same m.state.frame.registers q.0 v, new), kept-below (homes_with c related.later) m.state.frame.registers q.0 v kept below holds);
+      kept = (
+        (v, with-same m.state.frame.registers q.0 v, new),
+        kept-below (homes_with c related.later) m.state.frame.registers q.0 v kept
+            below holds,
+      );
       paid = let before = related.paid in omega (arith, before, paid);
       late = late-more r.most m.least (least_at (running r.program m.state) m.state.frame.place
           (slice_get (running r.program m.state) m.state.frame.place)) s.steps x.owed related.late;
@@ -222,6 +231,7 @@ module _ (r : Fixed) (c : Call) (call : IsCall r c) where
       v = wrap (width_of r.program (charged k m.state) q) n
 
       new : Held r.layouts (homes_with c related.later) t d v
-      new = subst (λ (u : Width). Held r.layouts (homes_with c related.later) t d (wrap u n)) (sym (width-at x s m k q w related width)) held
+      new = subst (λ (u : Width). Held r.layouts (homes_with c related.later) t d (wrap u n)) (sym (width-at x s m k q w related width))
+          held
 
 pub ruleset act_rules = (tick-does, even)

@@ -1,17 +1,12 @@
 -- Constants and operators on numbers, as pieces of code.
-use Rattle.std.proofs.Common.{◌≡◌, ◌≢◌, ℕ, zero, suc, ◌+◌, ◌-◌, ◌*◌, ◌/◌, ◌%◌, ◌^◌, ◌<◌, ◌≤◌, ◌==◌, Bool, true, false, not, List, [], ◌∷◌}
-use Rattle.std.proofs.Common.{◌++◌, length, if◌then◌else◌, refl, sym, subst, ap, ◌∙◌, arith, lit<, lit≤, Option, Some, None, slice_get, nat_lt, nat_le}
-use Rattle.std.proofs.lemmas.Nat.{mod_below}
-use Rattle.std.proofs.lemmas.Bool.{eq-eqb, ne_eqb, eqb-true}
-use Rattle.behaviour.specs.Ran.{Ran, Done, Stopped, and_then}
+use Rattle.std.proofs.Common.{◌≡◌, ℕ, ◌+◌, ◌^◌, ◌<◌, ◌≤◌, Bool, true, false, List, []}
+use Rattle.std.proofs.Common.{if◌then◌else◌, refl, subst, ap, ◌∙◌, arith, Some}
+use Rattle.behaviour.specs.Ran.{Done, and_then}
 use Rattle.behaviour.proofs.SimulatesLemmas.{simulates-here, simulates-from}
 use Rattle.prunum.specs.Number.{wrap, bit_count}
-use Rattle.prunum.specs.declared.width.Width.{Width}
-use Rattle.prunum.specs.declared.width.Width.TheVariants.{B1, B2, B4}
+use Rattle.prunum.specs.declared.width.Width.TheVariants.{B4}
 use Rattle.csyn.specs.declared.specifiers.Sign.{Sign}
-use Rattle.csyn.specs.declared.specifiers.Sign.TheVariants.{Signed, Unsigned}
 use Rattle.csyn.specs.declared.operator.BinaryOperator.{BinaryOperator}
-use Rattle.csyn.specs.declared.operator.BinaryOperator.TheVariants as source
 use Rattle.csyn.specs.declared.operator.ComparisonOperator.{ComparisonOperator}
 use Rattle.midcode.specs.declared.register.VReg.{VReg}
 use Rattle.midcode.specs.declared.op.OpKind.{OpKind}
@@ -21,26 +16,25 @@ use Rattle.cprogram.specs.declared.value.UnaryOperator.TheVariants.{Plus, Minus,
 use Rattle.midcode.specs.declared.op.BinaryOp.{BinaryOp}
 use Rattle.midcode.specs.declared.op.BinaryOp.TheVariants as two
 use Rattle.midcode.specs.declared.op.Operand.TheVariants as operand
-use Rattle.midcode.specs.Cost.{charge}
 use Rattle.midcode.specs.Value.{unary_value, binary_value}
 use Rattle.midcode.specs.Machine as machine
-use Rattle.midcode.specs.Meaning.{width_of, effect, charged}
 use Rattle.cprogram.specs.declared.scalar.Integer.{Integer}
-use Rattle.cmean.specs.Datum.{Datum, Number, Null, Plain, Address, is_true, truth_number, unary, binary, comparison, leftmost_bit}
-use Rattle.cmean.specs.State.{State, Run, give, then_with, sure}
+use Rattle.cmean.specs.Datum.{Datum, Number, Null, Plain, Address, unary, binary, comparison, leftmost_bit}
+use Rattle.cmean.specs.State.{Run, give, then_with, sure}
 use Rattle.cmean.specs.Expression.{Valued, datum, number_in, both, number_value}
-use Rattle.lowerstate.specs.Counted.{Counted, counted}
-use Rattle.lowerstate.specs.Held.{Meant, OfInteger, meant_width, Home, Held}
-use Rattle.lowerstate.specs.Related.{Fixed, Call, IsCall, Kept, Point, homes_with, Related}
-use Rattle.lowerstate.specs.Stands.{Ends, Does}
-use Rattle.lowerstate.specs.Piece.{Code, Free, behind, joined, next_register, followed, least_hand, IsIn, IsReady, onwards, Given, Evaluates}
+use Rattle.lowerstate.specs.Counted.{counted}
+use Rattle.lowerstate.specs.Held.{Meant, OfInteger, Home, Held}
+use Rattle.lowerstate.specs.Related.{Fixed, Call, IsCall}
+use Rattle.lowerstate.specs.Stands.{Ends}
+use Rattle.lowerstate.specs.Piece.{Code, Free, behind, joined, next_register, followed, least_hand, onwards, Given, Evaluates}
 use Rattle.lowerstate.specs.Piece.{IsValue, IsDatum, IsNumber, word, register, constant_code}
 use Rattle.lowerstate.specs.Operators.{operation, comparing, is_swapped}
-use Rattle.lowerstate.proofs.Agree.{wrap-small, wrap-below, unary-agrees-minus, unary-agrees-complement, binary-agrees, binary-below, binary-charge, comparison-agrees}
+use Rattle.lowerstate.proofs.Agree.{wrap-small, unary-agrees-minus, unary-agrees-complement, binary-agrees, binary-below, binary-charge}
+use Rattle.lowerstate.proofs.Agree.{comparison-agrees}
 use Rattle.lowerstate.proofs.Agree.{truth-below, leftmost-agrees, leftmost-below}
-use Rattle.lowerstate.proofs.Laws.{written, wrote}
+use Rattle.lowerstate.proofs.Laws.{wrote}
 use Rattle.lowerstate.proofs.Places.{stands-first}
-use Rattle.lowerstate.proofs.Pieces.{below-more, adjust, next-same, next-op}
+use Rattle.lowerstate.proofs.Pieces.{adjust, next-same, next-op}
 use Rattle.lowerstate.proofs.Pairs.{both-op}
 
 -- ---- what is read
@@ -67,7 +61,8 @@ module _ (r : Fixed) (c : Call) where
 
   -- the number of a value
   pub number-of : (f : Free) (code : Code) (t : Integer) (run : Run Datum) (nodes back : ℕ)
-      → Evaluates r c f code IsDatum (OfInteger t) run nodes back → Evaluates r c f code IsNumber (OfInteger t) (then_with run number_in) nodes back
+      → Evaluates r c f code IsDatum (OfInteger t) run nodes back → Evaluates r c f code IsNumber (OfInteger t) (then_with run number_in)
+      nodes back
   number-of f code t run nodes back first =
       next-same r c {Is = IsDatum} {Is' = IsNumber} f code (OfInteger t) (OfInteger t) run nodes back number_in first refl
       (λ homes a d v is held.
@@ -126,7 +121,8 @@ module _ (r : Fixed) (c : Call) (call : IsCall r c) where
       → Evaluates r c f (followed f code (op.Unary one.Negate (register (next_register f code)) (register code.result)) B4)
       IsValue (word t) (then_with run (λ n. number_value (unary Minus n))) nodes left
   minus-of f code s t run nodes left first =
-      next-op r c call {Is = IsNumber} {Is' = IsValue} f code (word s) (word t) run nodes (left + 9) left (λ n. number_value (unary Minus n))
+      next-op r c call {Is = IsNumber} {Is' = IsValue} f code (word s) (word t) run nodes (left + 9) left
+      (λ n. number_value (unary Minus n))
       (op.Unary one.Negate (register (next_register f code)) (register code.result)) first (omega arith)
       (λ homes m n d v is held reg width.
       let at = number-held (record { width = B4; sign = s }) homes n d v is held in
@@ -173,7 +169,8 @@ module _ (r : Fixed) (c : Call) (call : IsCall r c) where
 
     pair-of : (o : BinaryOp) (meant : ℕ → ℕ → ℕ)
         → ((x y : ℕ) → x < 2 ^ 32 → y < 2 ^ 32 → (binary_value o x y ≡ meant x y) × (meant x y < 2 ^ 32))
-        → Evaluates r c f a IsNumber (word s) run nodes (least_hand + spare) → Evaluates r c (behind f a) b IsNumber (word t) second others back
+        → Evaluates r c f a IsNumber (word s) run nodes (least_hand + spare) → Evaluates r c (behind f a) b IsNumber (word t) second others
+        back
         → 442 + left ≤ spare + back
         → Evaluates r c f (pair_code o) IsValue (word u) (both run second (λ x y. number_value (meant x y))) (nodes + others) left
     pair-of o meant agrees first then' paid =
@@ -199,7 +196,8 @@ module _ (r : Fixed) (c : Call) (call : IsCall r c) where
 
     swapped-of : (o : BinaryOp) (meant : ℕ → ℕ → ℕ)
         → ((x y : ℕ) → x < 2 ^ 32 → y < 2 ^ 32 → (binary_value o y x ≡ meant x y) × (meant x y < 2 ^ 32))
-        → Evaluates r c f a IsNumber (word s) run nodes (least_hand + spare) → Evaluates r c (behind f a) b IsNumber (word t) second others back
+        → Evaluates r c f a IsNumber (word s) run nodes (least_hand + spare) → Evaluates r c (behind f a) b IsNumber (word t) second others
+        back
         → 442 + left ≤ spare + back
         → Evaluates r c f (swapped_code o) IsValue (word u) (both run second (λ x y. number_value (meant x y))) (nodes + others) left
     swapped-of o meant agrees first then' paid =
@@ -225,11 +223,13 @@ module _ (r : Fixed) (c : Call) (call : IsCall r c) where
 
     -- a binary operator
     pub binary-of : (o : BinaryOperator) (sign : Sign)
-        → Evaluates r c f a IsNumber (word s) run nodes (least_hand + spare) → Evaluates r c (behind f a) b IsNumber (word t) second others back
+        → Evaluates r c f a IsNumber (word s) run nodes (least_hand + spare) → Evaluates r c (behind f a) b IsNumber (word t) second others
+        back
         → 442 + left ≤ spare + back
         → Evaluates r c f (pair_code (operation o sign)) IsValue (word u) (both run second (λ x y. number_value (binary o sign x y)))
         (nodes + others) left
-    binary-of o sign = pair-of (operation o sign) (binary o sign) (λ x y less more. (binary-agrees o sign x y, binary-below o sign x y less more))
+    binary-of o sign = pair-of (operation o sign) (binary o sign)
+        (λ x y less more. (binary-agrees o sign x y, binary-below o sign x y less more))
 
     -- `__lmbd`
     pub leftmost-of : Evaluates r c f a IsNumber (word s) run nodes (least_hand + spare)
@@ -243,7 +243,8 @@ module _ (r : Fixed) (c : Call) (call : IsCall r c) where
     comparison_code o sign = if is_swapped o then swapped_code (comparing o sign) else pair_code (comparing o sign)
 
     pub comparison-of : (o : ComparisonOperator) (sign : Sign)
-        → Evaluates r c f a IsNumber (word s) run nodes (least_hand + spare) → Evaluates r c (behind f a) b IsNumber (word t) second others back
+        → Evaluates r c f a IsNumber (word s) run nodes (least_hand + spare) → Evaluates r c (behind f a) b IsNumber (word t) second others
+        back
         → 442 + left ≤ spare + back
         → Evaluates r c f (comparison_code o sign) IsValue (word u) (both run second (λ x y. number_value (comparison o sign x y)))
         (nodes + others) left

@@ -1,9 +1,8 @@
 -- Two pieces, one behind the other, and an operation on what both give.
-use Rattle.std.proofs.Common.{◌≡◌, ℕ, ◌+◌, ◌<◌, ◌≤◌, List, [], ◌∷◌, ◌++◌, length, refl, sym, subst, ap, ◌∙◌, arith}
-use Rattle.std.proofs.Common.{Option, Some, slice_get, length-append}
-use Rattle.std.specs.List.{AllByRecursion}
+use Rattle.std.proofs.Common.{◌≡◌, ℕ, ◌+◌, ◌≤◌, List, [], ◌∷◌, ◌++◌, length, refl, sym, subst, ap, ◌∙◌, arith}
+use Rattle.std.proofs.Common.{Some, slice_get, length-append}
 use Rattle.std.proofs.lemmas.Option.{slice_get_within}
-use Rattle.behaviour.specs.Ran.{Ran, Done, and_then}
+use Rattle.behaviour.specs.Ran.{Done}
 use Rattle.behaviour.proofs.SimulatesLemmas.{simulates-here, simulates-from, bind}
 use Rattle.prunum.specs.Number.{wrap}
 use Rattle.midcode.specs.declared.register.VReg.{VReg}
@@ -16,11 +15,12 @@ use Rattle.cmean.specs.State.{State, Run, give, then_with}
 use Rattle.cmean.specs.Expression.{both}
 use Rattle.lowerstate.specs.Counted.{Counted, counted}
 use Rattle.lowerstate.specs.Held.{Meant, meant_width, Home, Held}
-use Rattle.lowerstate.specs.Related.{Fixed, Call, IsCall, Kept, Point, homes_with, Related}
+use Rattle.lowerstate.specs.Related.{Fixed, Call, IsCall, Point, homes_with, Related}
 use Rattle.lowerstate.specs.Stands.{Ends, Does}
-use Rattle.lowerstate.specs.Piece.{Code, Free, behind, joined, next_register, followed, least_hand, IsIn, IsReady, onwards, Given, Evaluates, register}
+use Rattle.lowerstate.specs.Piece.{Code, Free, behind, joined, next_register, followed, least_hand, IsIn, IsReady, onwards, Given}
+use Rattle.lowerstate.specs.Piece.{Evaluates, register}
 use Rattle.lowerstate.proofs.Laws.{written, wrote}
-use Rattle.lowerstate.proofs.Places.{stands-at, stands-first, stands-left, stands-right, one-longer, get-last}
+use Rattle.lowerstate.proofs.Places.{stands-first, stands-left, stands-right, one-longer, get-last}
 use Rattle.lowerstate.proofs.Pieces.{below-more, adjust}
 
 module _ (r : Fixed) (c : Call) (call : IsCall r c) {A B C : Type 0} (Is : A → Datum → Type 0) (Js : B → Datum → Type 0)
@@ -82,7 +82,8 @@ module _ (r : Fixed) (c : Call) (call : IsCall r c) {A B C : Type 0} (Is : A →
       (below-more x.kept f.register (next_register f code) (omega arith) ready.kept)
       related.kept.1.1 new.5 new.6 (omega (arith, paid)) in
       subst (λ run. Does r (Given r c all Ks w (nodes + others) left x hand) run m) (sym (ap (λ g. g r.budget s) new.3))
-      (simulates-from (counted r.program r.addresses) (Ends r) (Given r c all Ks w (nodes + others) left x hand) (Done new.0 s) m done.0 done.1
+      (simulates-from (counted r.program r.addresses) (Ends r) (Given r c all Ks w (nodes + others) left x hand) (Done new.0 s) m done.0
+      done.1
       (simulates-here (counted r.program r.addresses) (Ends r) (Given r c all Ks w (nodes + others) left x hand) (Done new.0 s) done.0 (
         new.1,
         new.4,

@@ -1,27 +1,22 @@
 -- One lemma for each way in which code is made of pieces.
-use Rattle.std.proofs.Common.{◌≡◌, ℕ, zero, suc, ◌+◌, ◌*◌, ◌<◌, ◌≤◌, List, [], ◌∷◌, ◌++◌, length, refl, sym, subst, ap, ◌∙◌, arith}
-use Rattle.std.proofs.Common.{Option, Some, None, slice_get, length-append}
+use Rattle.std.proofs.Common.{◌≡◌, ℕ, ◌+◌, ◌<◌, ◌≤◌, List, [], ◌∷◌, length, refl, sym, subst, ap, ◌∙◌, arith}
+use Rattle.std.proofs.Common.{Some, slice_get}
 use Rattle.std.specs.List.{AllByRecursion}
-use Rattle.std.proofs.lemmas.Option.{slice_get_within}
-use Rattle.behaviour.specs.Ran.{Ran, Done, and_then}
+use Rattle.behaviour.specs.Ran.{Done}
 use Rattle.behaviour.proofs.SimulatesLemmas.{simulates-here, simulates-from, bind}
 use Rattle.prunum.specs.Number.{wrap}
-use Rattle.prunum.specs.declared.width.Width.{Width}
-use Rattle.prunum.specs.declared.width.Width.TheVariants.{B4}
 use Rattle.midcode.specs.declared.register.VReg.{VReg}
 use Rattle.midcode.specs.declared.op.OpKind.{OpKind}
-use Rattle.midcode.specs.declared.op.OpKind.TheVariants as op
 use Rattle.midcode.specs.Cost.{charge}
 use Rattle.midcode.specs.Machine as machine
 use Rattle.midcode.specs.Meaning.{width_of, effect, charged}
-use Rattle.cmean.specs.Datum.{Datum, Number}
+use Rattle.cmean.specs.Datum.{Datum}
 use Rattle.cmean.specs.State.{State, Run, give, then_with, then_do, tick, node}
-use Rattle.cmean.specs.Expression.{both}
 use Rattle.lowerstate.specs.Counted.{Counted, counted}
 use Rattle.lowerstate.specs.Held.{Meant, meant_width, Home, Held}
 use Rattle.lowerstate.specs.Related.{Fixed, Call, IsCall, Kept, Point, homes_with, IsKept, Related, stepped}
 use Rattle.lowerstate.specs.Stands.{Ends, Does}
-use Rattle.lowerstate.specs.Piece.{Code, Free, behind, joined, next_register, followed, StandsAt, IsIn, IsReady, onwards, Given, Evaluates, register}
+use Rattle.lowerstate.specs.Piece.{Code, Free, next_register, followed, IsIn, IsReady, onwards, Given, Evaluates, register}
 use Rattle.lowerstate.proofs.Laws.{tick-does, written, width-at, wrote}
 use Rattle.lowerstate.proofs.Places.{stands-at, stands-first, stands-left, stands-right, one-longer, get-last}
 
@@ -83,7 +78,8 @@ module _ (r : Fixed) (c : Call) where
           (simulates-here (counted r.program r.addresses) (Ends r) D (Done new.0 s) m (
             new.1,
             new.3,
-            adjust (onwards x code nodes hand back t d) (onwards x code nodes hand back u new.1) s m refl (omega arith) (omega arith) related
+            adjust (onwards x code nodes hand back t d) (onwards x code nodes hand back u new.1) s m refl (omega arith) (omega arith)
+                related
                 ((related.kept.0.0, related.kept.0.1, new.4), related.kept.1),
           ))
 
@@ -106,10 +102,12 @@ module _ (r : Fixed) (c : Call) where
           → Does r (Given r c code Is t (nodes + 1) node_back x hand) (then_do tick (give a) r.budget s) m
       after x hand a s m d is few related =
           bind (counted r.program r.addresses) (Ends r)
-          (λ _. Related r c (stepped (onwards x code nodes hand back t d) (hand + node_back))) (Given r c code Is t (nodes + 1) node_back x hand)
+          (λ _. Related r c (stepped (onwards x code nodes hand back t d) (hand + node_back)))
+          (Given r c code Is t (nodes + 1) node_back x hand)
           (tick r.budget s) (λ _. give a r.budget) m
           (tick-does r c (onwards x code nodes hand back t d) s m (hand + node_back) (omega arith) few related)
-          (λ _ s m behind. simulates-here (counted r.program r.addresses) (Ends r) (Given r c code Is t (nodes + 1) node_back x hand) (Done a s) m (
+          (λ _ s m behind. simulates-here (counted r.program r.addresses) (Ends r) (Given r c code Is t (nodes + 1) node_back x hand)
+          (Done a s) m (
             d,
             is,
             adjust (stepped (onwards x code nodes hand back t d) (hand + node_back)) (onwards x code (nodes + 1) hand node_back t d)
@@ -160,12 +158,20 @@ module _ (r : Fixed) (c : Call) (call : IsCall r c) where
           (let free = stands.free in omega (arith, free))
           (below-more x.kept f.register (next_register f code) (omega arith) ready.kept)
           related.kept.1 new.5 new.6 (omega (arith, paid)) in
-          subst (λ run. Does r (Given r c (followed f code k (meant_width u)) Is' u nodes left x hand) run m) (sym (ap (λ g. g r.budget s) new.3))
-          (simulates-from (counted r.program r.addresses) (Ends r) (Given r c (followed f code k (meant_width u)) Is' u nodes left x hand) (Done new.0 s) m done.0 done.1
-          (simulates-here (counted r.program r.addresses) (Ends r) (Given r c (followed f code k (meant_width u)) Is' u nodes left x hand) (Done new.0 s) done.0 (
+          subst (λ run. Does r (Given r c (followed f code k (meant_width u)) Is' u nodes left x hand) run m)
+          (sym (ap (λ g. g r.budget s) new.3))
+          (simulates-from (counted r.program r.addresses) (Ends r) (Given r c (followed f code k (meant_width u)) Is' u nodes left x hand)
+          (Done new.0 s) m done.0 done.1
+          (simulates-here (counted r.program r.addresses) (Ends r) (Given r c (followed f code k (meant_width u)) Is' u nodes left x hand)
+          (Done new.0 s) done.0 (
             new.1,
             new.4,
-            adjust r c (record y { place = x.place + length code.ops + 1; kept = record { register = next_register f code; meant = u; datum = new.1 } ∷ x.kept; hand = hand + left })
+            adjust r c (record y {
+              place = x.place + length code.ops + 1;
+              kept =
+                  record { register = next_register f code; meant = u; datum = new.1 } ∷ x.kept;
+              hand = hand + left;
+            })
                 (onwards x (followed f code k (meant_width u)) nodes hand left u new.1) s done.0
                 (let long = one-longer code.ops k in omega (arith, long)) (omega arith) (omega arith) done.2 done.2.kept,
           )))

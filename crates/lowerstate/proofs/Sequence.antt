@@ -1,15 +1,12 @@
 -- One expression after another, of which the second's value is the whole's; and conversions between widths.
-use Rattle.std.proofs.Common.{◌≡◌, ℕ, ◌+◌, ◌<◌, ◌≤◌, ◌^◌, List, [], ◌∷◌, ◌++◌, length, refl, sym, subst, ap, ◌∙◌, arith}
-use Rattle.std.proofs.Common.{Option, Some, None, slice_get, length-append}
-use Rattle.std.proofs.lemmas.Option.{slice_get_within}
-use Rattle.behaviour.specs.Ran.{Ran, Done, and_then}
+use Rattle.std.proofs.Common.{◌≡◌, ℕ, ◌+◌, List, ◌++◌, length, refl, ◌∙◌, arith}
+use Rattle.std.proofs.Common.{slice_get, length-append}
 use Rattle.behaviour.proofs.SimulatesLemmas.{simulates-weaker, bind}
-use Rattle.prunum.specs.Number.{wrap, bit_count, sext, wrap_signed}
 use Rattle.cmean.specs.Datum.{Datum}
 use Rattle.cmean.specs.State.{State, Run, then_do}
 use Rattle.lowerstate.specs.Counted.{Counted, counted}
-use Rattle.lowerstate.specs.Held.{Meant, meant_width, Home, Held}
-use Rattle.lowerstate.specs.Related.{Fixed, Call, IsCall, Kept, Point, homes_with, Related}
+use Rattle.lowerstate.specs.Held.{Meant}
+use Rattle.lowerstate.specs.Related.{Fixed, Call, Point, Related}
 use Rattle.lowerstate.specs.Stands.{Ends, Does}
 use Rattle.lowerstate.specs.Piece.{Code, Free, behind, joined, least_hand, IsIn, IsReady, onwards, Given, Evaluates}
 use Rattle.lowerstate.proofs.Places.{stands-left, stands-right, get-further}
@@ -48,7 +45,8 @@ module _ (r : Fixed) (c : Call) {A B : Type 0} (Is : A → Datum → Type 0) (Js
       → Does r (Given r c (joined a b) Js u (nodes + others) (spare + back) x hand) (second r.budget s) m
   second-does then' x hand i s m stands ready at =
       let related : Related r c (between x hand) s m =
-      adjust r c (onwards x a nodes hand (least_hand + spare) t at.0) (between x hand) s m refl (omega arith) (omega arith) at.2 at.2.kept.1 in
+      adjust r c (onwards x a nodes hand (least_hand + spare) t at.0) (between x hand) s m refl (omega arith) (omega arith) at.2 at.2.kept.1
+      in
       simulates-weaker (counted r.program r.addresses) (Ends r) (Given r c b Js u others back (between x hand) (hand + spare))
       (Given r c (joined a b) Js u (nodes + others) (spare + back) x hand) (Ends r)
       (λ j s m on. (
@@ -67,7 +65,8 @@ module _ (r : Fixed) (c : Call) {A B : Type 0} (Is : A → Datum → Type 0) (Js
   sequence-of first then' = record {
     typed = (
       length a.widths + then'.typed.0,
-      then'.typed.1 ∙ (let e : f.register + length a.widths + then'.typed.0 ≡ f.register + (length a.widths + then'.typed.0) = omega arith in e),
+      then'.typed.1 ∙ (let e : f.register + length a.widths + then'.typed.0 ≡ f.register + (length a.widths + then'.typed.0) =
+          omega arith in e),
       behind-get a.widths then'.typed.0 ∙ then'.typed.2,
     );
     does = λ x hand s m stands ready related.

@@ -1,7 +1,7 @@
 -- Events: what the meaning shows and what an operation shows.
-use Rattle.std.proofs.Common.{◌≡◌, ℕ, suc, ◌+◌, ◌*◌, ◌<◌, ◌≤◌, List, [], ◌∷◌, ◌++◌, map, refl, ap, ◌∙◌, arith, Option, Some, slice_get}
+use Rattle.std.proofs.Common.{◌≡◌, ℕ, suc, ◌+◌, ◌≤◌, [], ◌∷◌, ◌++◌, ap, ◌∙◌, arith, Some, slice_get}
 use Rattle.std.proofs.lemmas.List.{map-append}
-use Rattle.behaviour.specs.Ran.{Ran, Done}
+use Rattle.behaviour.specs.Ran.{Done}
 use Rattle.behaviour.proofs.SimulatesLemmas.{simulates-here, simulates-from}
 use Rattle.prutrace.specs.declared.event.Event.{Event}
 use Rattle.midcode.specs.declared.op.OpKind.{OpKind}
@@ -30,7 +30,13 @@ module _ (r : Fixed) (c : Call) (call : IsCall r c) where
     locals = related.locals;
     events = map-append (λ e. e.event) s.shown (record { step = suc s.steps; event = e } ∷ []) ∙ ap (λ es. es ++ e ∷ []) related.events;
     values = related.values;
-    stored = record { all = related.stored.all; leaf = related.stored.leaf; room = related.stored.room; disjoint = related.stored.disjoint };
+    stored = record {
+      all = related.stored.all;
+      leaf = related.stored.leaf;
+      room = related.stored.room;
+      disjoint =
+          related.stored.disjoint;
+    };
     variables = related.variables;
     outer = related.outer;
     kept = related.kept;
@@ -47,7 +53,8 @@ module _ (r : Fixed) (c : Call) (call : IsCall r c) where
       → charge k + hand ≤ x.hand
       → Does r (λ _. Related r c (record x { place = x.place + 1; hand = hand })) (show e r.budget s) m
   show-does x s m k e hand few related is does paid =
-      in_budget-does r c (λ _. Related r c (record x { place = x.place + 1; hand = hand })) (change (λ s. showing (suc s.steps) e s)) x s m few
+      in_budget-does r c (λ _. Related r c (record x { place = x.place + 1; hand = hand })) (change (λ s. showing (suc s.steps) e s)) x s m
+      few
       related
       (λ _. simulates-from (counted r.program r.addresses) (Ends r) (λ _. Related r c (record x { place = x.place + 1; hand = hand }))
       (Done tt (showing (suc s.steps) e s)) m (counted_to r c call m (shown_to e (charged k m.state)))

@@ -1,5 +1,5 @@
 -- Where the objects of a run of C are, and which number stands for a value.
-use Rattle.std.specs.Prelude.{ℕ, ◌≡◌, ◌+◌, ◌*◌, ◌^◌, ◌<◌, ◌≤◌, List, length, Option, Some, None, slice_get}
+use Rattle.std.specs.Prelude.{ℕ, ◌≡◌, ◌+◌, ◌*◌, ◌^◌, ◌<◌, ◌≤◌, List, length, Some, slice_get}
 use Rattle.prunum.specs.Number.{bit_count}
 use Rattle.prunum.specs.declared.width.Width.{Width}
 use Rattle.prunum.specs.declared.width.Width.TheVariants.{B4}

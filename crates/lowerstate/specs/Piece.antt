@@ -11,7 +11,7 @@ use Rattle.cmean.specs.Datum.{Datum, Number}
 use Rattle.cmean.specs.State.{State, Run}
 use Rattle.lowerstate.specs.Counted.{Counted}
 use Rattle.lowerstate.specs.Held.{Meant, OfInteger, meant_width}
-use Rattle.lowerstate.specs.Related.{Fixed, Call, Kept, Point, Related}
+use Rattle.lowerstate.specs.Related.{Fixed, Call, Point, Related}
 use Rattle.lowerstate.specs.Stands.{Does}
 
 -- ---- code
@@ -66,7 +66,8 @@ pub record IsIn (c : Call) (f : Free) (code : Code) (place : ℕ) : Type 0 where
 abbrev pub least_hand : ℕ
 least_hand = 64
 
--- Where an evaluation can begin: cycles are in hand, the steps of these nodes are within those between two solid operations, and the values on
+-- Where an evaluation can begin: cycles are in hand, the steps of these nodes are within those between two solid operations, and the
+-- values on
 -- the way are in registers that are given out.
 pub record IsReady (r : Fixed) (f : Free) (nodes hand : ℕ) (x : Point) : Type 0 where
   pub in_hand : x.hand ≡ least_hand + hand
@@ -86,7 +87,8 @@ onwards x code nodes hand back t d = record {
 abbrev pub Given : Fixed → Call → Code → {A : Type 0} → (A → Datum → Type 0) → Meant → ℕ → ℕ → Point → ℕ → A → State → Counted → Type 0
 Given r c code Is t nodes back x hand a s m = (d : Datum) × Is a d × Related r c (onwards x code nodes hand back t d) s m
 
--- Code for a run that gives a value of a type. Its evaluation leaves so many cycles in hand, and is so many steps at the most. `Is` tells which
+-- Code for a run that gives a value of a type. Its evaluation leaves so many cycles in hand, and is so many steps at the most. `Is` tells
+-- which
 -- datum what the run gives is.
 pub record Evaluates (r : Fixed) (c : Call) (f : Free) (code : Code) {A : Type 0} (Is : A → Datum → Type 0) (t : Meant) (run : Run A)
     (nodes back : ℕ) : Type 0 where
