@@ -1,0 +1,6 @@
+pub mod Counted
+pub mod Held
+pub mod Operators
+pub mod Piece
+pub mod Related
+pub mod Stands
