@@ -1,12 +1,14 @@
 -- The command as `clap` builds it, and what a parse of it comes to by the walk alone.
-use Rattle.std.proofs.Common.{◌≡◌, ◌∙◌, ℕ, ◌+◌, Bool, true, false, not, ◌&&◌, ◌||◌, List, [], ◌∷◌, map, Option, Some, None, is_some, cond, refl, ap, ap₂, arith}
+use Rattle.std.proofs.Common.{◌≡◌, ◌∙◌, ℕ, ◌+◌, Bool, true, false, not, ◌&&◌, ◌||◌, List, [], ◌∷◌, map, Option, Some, None, is_some, cond}
+use Rattle.std.proofs.Common.{refl, ap, ap₂, arith}
 use Rattle.std.specs.Prelude.{fold}
 use Rattle.std.specs.List.{list_all, list_any}
 use Rattle.clap.specs.Walk.{Row, Rule, finished, idle, is_early_multiple, nothing_held, settled, walk, with_default}
 use Rattle.clap.specs.Simple.{App, built, entered, filled_from, is_in_order, is_ready, is_ready_leaf, is_buildable, matches_of}
 use Rattle.clap.specs.Kinds.{check_kinds, or_else}
 use Rattle.clap.specs.Takes.{is_given}
-use Rattle.clap.specs.Faults.{built_fault, defaults_fault, entered_fault, fault_of, is_free_app, is_simple_and_free, level_fault, settle_fault, walk_fault}
+use Rattle.clap.specs.Faults.{built_fault, defaults_fault, entered_fault, fault_of, is_free_app, is_simple_and_free, level_fault}
+use Rattle.clap.specs.Faults.{settle_fault, walk_fault}
 use Rattle.cmdwords.specs.Form.{Text}
 use Rattle.cmdwords.specs.Splitting.{app_with, option_rule}
 use Rattle.cmdwords.proofs.Rows.{option_built, placed}
@@ -21,7 +23,8 @@ abbrev pub app_built : Text → List Text → App
 app_built mode names = record { top = top mode names; subs = [] }
 
 pub built_is : (mode : Text) (names : List Text) → built (app_with mode names) ≡ app_built mode names
-built_is mode names = ap (λ l. record (app_built mode names) { top = record (top mode names) { rules = placed ∷ l } }) (filled_options 2 names)
+built_is mode names =
+    ap (λ l. record (app_built mode names) { top = record (top mode names) { rules = placed ∷ l } }) (filled_options 2 names)
 
 -- ---- it is simple, and no argument has a rule on another
 
@@ -57,7 +60,8 @@ and_true a b p q = ap₂ (λ x y. x && y) p q
 
 pub simple_and_free : (mode : Text) (names : List Text) → is_simple_and_free (app_with mode names) ≡ true
 simple_and_free mode names =
-    ap (λ (b : App). (is_buildable (app_with mode names) && (is_ready b.top && list_all is_ready_leaf b.subs)) && is_free_app b) (built_is mode names)
+    ap (λ (b : App). (is_buildable (app_with mode names) && (is_ready b.top && list_all is_ready_leaf b.subs)) && is_free_app b)
+    (built_is mode names)
     ∙ and_true _ _ (and_true _ _ (and_true _ _ (given_simple names) refl)
     (and_true _ _ (and_true _ _ (built_simple names) (in_order names)) refl)) (and_true _ _ (built_free names) refl)
 
@@ -84,7 +88,8 @@ all_defaults names rows =
     ap (λ k. or_else k (defaults_fault (with_default rows placed) (map option_built names))) (drop_or _ [] _)
     ∙ no_defaults names (with_default rows placed)
 
-none_required : (names : List Text) (rows : List Row) → list_any (λ (a : Rule). a.required && not (is_given a.id rows)) (map option_built names) ≡ false
+none_required : (names : List Text) (rows : List Row) → list_any (λ (a : Rule). a.required && not (is_given a.id rows))
+    (map option_built names) ≡ false
 none_required [] rows = refl
 none_required (name ∷ names) rows = none_required names rows
 
@@ -98,7 +103,8 @@ finished_rows names rows = ap (λ r. fold with_default r (map option_built names
 -- ---- a parse comes to its walk
 
 no_levels : (mode : Text) (names : List Text) (words : List Text) (stop : Option (Text × List Text))
-    → level_fault (top mode names) [] nothing_held words (is_some (entered (app_built mode names) stop)) (entered_fault (app_built mode names) stop)
+    → level_fault (top mode names) [] nothing_held words (is_some (entered (app_built mode names) stop))
+    (entered_fault (app_built mode names) stop)
     ≡ level_fault (top mode names) [] nothing_held words false []
 no_levels mode names words None = refl
 no_levels mode names words (Some p) = refl
@@ -122,5 +128,6 @@ fault_is mode first names words =
 pub matches_are : (mode first : Text) (names words : List Text)
     → matches_of (app_with mode names) (first ∷ words) ≡ (outcome mode names (at (hold [] None) idle false) words).1
 matches_are mode first names words =
-    ap (λ (a : App). finished a.top.rules (walk a.top.rules (map (λ s. (s.name, s.aliases)) a.subs) nothing_held words).held) (built_is mode names)
+    ap (λ (a : App). finished a.top.rules (walk a.top.rules (map (λ s. (s.name, s.aliases)) a.subs) nothing_held words).held)
+    (built_is mode names)
     ∙ finished_rows names (settled (rules names) (walk (rules names) [] nothing_held words).held).rows

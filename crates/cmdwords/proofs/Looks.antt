@@ -1,5 +1,6 @@
 -- What a word looks like to `clap`.
-use Rattle.std.proofs.Common.{◌≡◌, ◌≢◌, ◌∙◌, ◌⊎◌, ℕ, zero, suc, Bool, true, false, not, ◌==◌, ◌&&◌, List, [], ◌∷◌, ◌++◌, length, Some, None, refl, sym, ap, subst, inl, inr, arith, IsUtf8, true≢false}
+use Rattle.std.proofs.Common.{◌≡◌, ◌≢◌, ◌∙◌, ◌⊎◌, ℕ, zero, suc, Bool, true, false, not, ◌==◌, ◌&&◌, List, [], ◌∷◌, ◌++◌, length, Some, None}
+use Rattle.std.proofs.Common.{refl, sym, ap, subst, inl, inr, arith, IsUtf8, true≢false}
 use Rattle.std.specs.Prelude.{slice_get, encode_utf8}
 use Rattle.std.specs.List.{list_all, list_any}
 use Rattle.std.specs.Str.{bytes_eq, chars}
@@ -13,7 +14,8 @@ use Rattle.cmdwords.specs.Piece.{IsPlain}
 
 -- a word is plain, or `--`, or has a name, or has flags
 pub by_look : (P : Text → Type 0) → ((word : Text) → IsPlain word → P word) → P (45 ∷ 45 ∷ [])
-    → ((c : ℕ) (rest : Text) → P (45 ∷ 45 ∷ c ∷ rest)) → ((c : ℕ) (rest : Text) → (c == 45) ≡ false → P (45 ∷ c ∷ rest)) → (word : Text) → P word
+    → ((c : ℕ) (rest : Text) → P (45 ∷ 45 ∷ c ∷ rest)) → ((c : ℕ) (rest : Text) → (c == 45) ≡ false → P (45 ∷ c ∷ rest)) → (word : Text)
+    → P word
 by_look P plain end long short [] = plain [] tt
 by_look P plain end long short (c ∷ []) = plain (c ∷ []) tt
 by_look P plain end long short (c ∷ d ∷ rest) = go (c == 45) refl

@@ -1,5 +1,6 @@
 -- From what `clap` finds to what the words ask for.
-use Rattle.std.proofs.Common.{◌≡◌, ◌∙◌, ◌<◌, Bool, true, false, ◌&&◌, List, [], ◌∷◌, map, Option, Some, None, refl, sym, ap, ap₂, arith, true≢false, ltb-true}
+use Rattle.std.proofs.Common.{◌≡◌, ◌∙◌, ◌<◌, Bool, true, false, ◌&&◌, List, [], ◌∷◌, map, Option, Some, None, refl, sym, ap, ap₂, arith}
+use Rattle.std.proofs.Common.{true≢false, ltb-true}
 use Rattle.std.specs.Prelude.{option_and_then, option_map, slice_get}
 use Rattle.std.specs.List.{list_all}
 use Rattle.std.proofs.lemmas.Fmt.{decimal_injective}
@@ -34,12 +35,14 @@ one_value name rows o e = first_of_is name rows ∙ ap (option_and_then (λ vs. 
     go None = refl
     go (Some v) = refl
 
-option_values : (names : List Text) (rows : List Row) (pieces : List Piece) (behind : Option (List Text)) → list_all is_name names ≡ true → Reads [] rows pieces behind
+option_values : (names : List Text) (rows : List Row) (pieces : List Piece) (behind : Option (List Text)) → list_all is_name names ≡ true
+    → Reads [] rows pieces behind
     → map (λ name. first_of name rows) names ≡ map (λ name. value_of name pieces) names
 option_values [] rows pieces behind all r = refl
 option_values (name ∷ names) rows pieces behind all r =
     let parts = two (is_name name) (list_all is_name names) all in
-    ap₂ (λ (v : Option Text) (l : List (Option Text)). v ∷ l) (one_value name rows (value_of name pieces) (r.options name (name_differs name parts.0)))
+    ap₂ (λ (v : Option Text) (l : List (Option Text)). v ∷ l)
+    (one_value name rows (value_of name pieces) (r.options name (name_differs name parts.0)))
     (option_values names rows pieces behind parts.1 r)
 
 -- what words ask for is what `clap` finds
@@ -51,15 +54,18 @@ pub record Agrees (form : Form) (words : List Text) (a : Asked) : Type 0 where
 pub read_back : (form : Form) (words : List Text) (a : Asked) → HasNames form → Asks form words a → Agrees form words a
 read_back form words a named asks =
     let rest : List Text = written asks.pieces asks.behind in
-    let pass = all_pass form.mode form.options named asks.pieces asks.behind [] None false asks.stand (record { absent = λ name e. refl }) refl in
+    let pass = all_pass form.mode form.options named asks.pieces asks.behind [] None false asks.stand (record { absent = λ name e. refl })
+    refl in
     let rows = ap (matches_of (app form)) asks.text ∙ matches_are form.mode form.mode form.options rest in
     record {
       passes = ap (fault_of (app form)) asks.text ∙ fault_is form.mode form.mode form.options rest ∙ pass.0;
       places = ap (λ r. listed (all_of (61 ∷ []) r)) rows ∙ pass.1.places ∙ asks.places;
-      options = asks.options ∙ sym (ap (λ r. map (λ name. first_of name r) form.options) rows ∙ option_values form.options _ asks.pieces asks.behind named pass.1);
+      options = asks.options ∙ sym (ap (λ r. map (λ name. first_of name r) form.options) rows ∙ option_values form.options _ asks.pieces
+          asks.behind named pass.1);
     }
 
-pub read_on : (form : Form) (words rest : List Text) (values : List Said) → HasNames form → words ≡ form.mode ∷ rest → AreUtf8 rest → fault_of (app form) words ≡ []
+pub read_on : (form : Form) (words rest : List Text) (values : List Said) → HasNames form → words ≡ form.mode ∷ rest → AreUtf8 rest
+    → fault_of (app form) words ≡ []
     → Fill form.places values → map word_of values ≡ listed (all_of (61 ∷ []) (matches_of (app form) words))
     → Asks form words (record { values = values; options = map (λ name. first_of name (matches_of (app form) words)) form.options })
 read_on form words rest values named text utf8 none fill says =
@@ -73,7 +79,8 @@ read_on form words rest values named text utf8 none fill says =
       stand = found.stand;
       places = sym (says ∙ ap (λ r. listed (all_of (61 ∷ []) r)) rows ∙ found.reads.places);
       fill = fill;
-      options = ap (λ r. map (λ name. first_of name r) form.options) rows ∙ option_values form.options _ found.pieces found.behind named found.reads;
+      options = ap (λ r. map (λ name. first_of name r) form.options) rows ∙ option_values form.options _ found.pieces found.behind named
+          found.reads;
     }
 
 -- ---- one reading
@@ -88,7 +95,8 @@ one_said (at_place.Number least most) (number m) (number n) fits p q e =
 one_said (at_place.Number least most) (number m) (file y) fits p q e = absurd q
 one_said (at_place.Number least most) (file x) t fits p q e = absurd p
 
-same_values : (places : List Place) (vs us : List Said) → list_all is_range places ≡ true → Fill places vs → Fill places us → map word_of vs ≡ map word_of us → vs ≡ us
+same_values : (places : List Place) (vs us : List Said) → list_all is_range places ≡ true → Fill places vs → Fill places us → map word_of vs
+    ≡ map word_of us → vs ≡ us
 same_values [] [] [] fits p q e = refl
 same_values [] [] (u ∷ us) fits p q e = absurd q
 same_values [] (v ∷ vs) us fits p q e = absurd p
@@ -103,7 +111,8 @@ same_values (place ∷ places) (v ∷ vs) (u ∷ us) fits p q e =
 abbrev made : List Said → List (Option Text) → Asked
 made values options = record { values = values; options = options }
 
-pub one_meaning : (form : Form) (words : List Text) (a b : Asked) → HasNames form → HasRanges form → Asks form words a → Asks form words b → a ≡ b
+pub one_meaning : (form : Form) (words : List Text) (a b : Asked) → HasNames form → HasRanges form → Asks form words a → Asks form words b
+    → a ≡ b
 one_meaning form words a b named ranged p q =
     let first = read_back form words a named p in
     let second = read_back form words b named q in

@@ -33,7 +33,8 @@ has_row_is id (r ∷ rs) = go (bytes_eq r.id id) (has_row_is id rs)
 pub first_of_is : (id : Text) (rows : List Row) → first_of id rows ≡ option_and_then (λ vs. slice_get vs 0) (all_of id rows)
 first_of_is id rows = go (find (λ r. bytes_eq r.id id) rows)
   where
-    go : (o : Option Row) → option_and_then (λ (r : Row). slice_get r.values 0) o ≡ option_and_then (λ vs. slice_get vs 0) (option_map (λ (r : Row). r.values) o)
+    go : (o : Option Row) → option_and_then (λ (r : Row). slice_get r.values 0) o ≡ option_and_then (λ vs. slice_get vs 0)
+        (option_map (λ (r : Row). r.values) o)
     go None = refl
     go (Some r) = refl
 
@@ -47,7 +48,8 @@ module _ (id : Text) (how : Reading) (s : ValueSource) (values : List Text) wher
       go true e later = rw e (rw e refl)
       go false e later = rw e (rw e later)
 
-  pub joined_other : (other : Text) → bytes_eq id other ≡ false → (rows : List Row) → all_of other (with_values id how s values rows) ≡ all_of other rows
+  pub joined_other : (other : Text) → bytes_eq id other ≡ false → (rows : List Row) → all_of other (with_values id how s values rows)
+      ≡ all_of other rows
   joined_other other ne [] = rw ne refl
   joined_other other ne (r ∷ rs) = go (bytes_eq r.id id) refl (joined_other other ne rs)
     where
@@ -78,7 +80,8 @@ without_absent id (r ∷ rs) none = go (bytes_eq r.id id) refl (without_absent i
 
 -- ---- a use of an option that has no row yet
 
-pub option_found : (name value : Text) (rows : List Row) → all_of name rows ≡ None → all_of name (used (option_built name) (value ∷ []) rows) ≡ Some (value ∷ [])
+pub option_found : (name value : Text) (rows : List Row) → all_of name rows ≡ None
+    → all_of name (used (option_built name) (value ∷ []) rows) ≡ Some (value ∷ [])
 option_found name value rows none =
     joined_found name _ _ (value ∷ []) (without name rows)
     ∙ ap (λ l. Some (listed (all_of name l) ++ value ∷ [])) (without_absent name rows none)
@@ -91,8 +94,10 @@ option_other name value other rows none ne =
 
 -- ---- a use of the places
 
-pub place_found : (word : Text) (rows : List Row) → all_of (61 ∷ []) (used placed (word ∷ []) rows) ≡ Some (listed (all_of (61 ∷ []) rows) ++ word ∷ [])
+pub place_found : (word : Text) (rows : List Row) → all_of (61 ∷ []) (used placed (word ∷ []) rows)
+    ≡ Some (listed (all_of (61 ∷ []) rows) ++ word ∷ [])
 place_found word rows = joined_found (61 ∷ []) _ _ (word ∷ []) rows
 
-pub place_other : (word other : Text) (rows : List Row) → bytes_eq (61 ∷ []) other ≡ false → all_of other (used placed (word ∷ []) rows) ≡ all_of other rows
+pub place_other : (word other : Text) (rows : List Row) → bytes_eq (61 ∷ []) other ≡ false → all_of other (used placed (word ∷ []) rows)
+    ≡ all_of other rows
 place_other word other rows ne = joined_other (61 ∷ []) _ _ (word ∷ []) other ne rows

@@ -1,5 +1,6 @@
 -- What `clap` takes is written by pieces that may stand, which say what it found.
-use Rattle.std.proofs.Common.{◌≡◌, ◌∙◌, ◌⊎◌, ◌==◌, ℕ, Bool, true, false, List, [], ◌∷◌, ◌++◌, Option, Some, None, refl, sym, ap, subst, inl, inr, true≢false, IsUtf8}
+use Rattle.std.proofs.Common.{◌≡◌, ◌∙◌, ◌⊎◌, ◌==◌, ℕ, Bool, true, false, List, [], ◌∷◌, ◌++◌, Option, Some, None, refl, sym, ap, subst, inl}
+use Rattle.std.proofs.Common.{inr, true≢false, IsUtf8}
 use Rattle.std.specs.List.{list_all}
 use Rattle.clap.specs.Lexer.{name_and_value}
 use Rattle.clap.specs.Walk.{Row, all_of, idle, option as awaits, positional, used}
@@ -11,7 +12,9 @@ use Rattle.cmdwords.specs.Form.{Text, is_name}
 use Rattle.cmdwords.specs.Piece.{ArePieces, IsNonempty, IsPlain, Piece, apart, joined, place, option, written}
 use Rattle.cmdwords.proofs.Looks.{by_look, cut, flags_utf8, is_taken, name_differs, taken_is_name}
 use Rattle.cmdwords.proofs.Rows.{option_built, placed}
-use Rattle.cmdwords.proofs.Steps.{at, empty_faults, faults_in, first_none, hold, open_apart, open_end, open_joined, open_other, open_place, open_short, open_value, option_faults, option_rows, outcome, outcome_none, rows_in, second_none, use_needs, waits}
+use Rattle.cmdwords.proofs.Steps.{at, empty_faults, faults_in, first_none, hold, open_apart, open_end, open_joined, open_other, open_place}
+use Rattle.cmdwords.proofs.Steps.{open_short, open_value, option_faults, option_rows, outcome, outcome_none, rows_in, second_none}
+use Rattle.cmdwords.proofs.Steps.{use_needs, waits}
 use Rattle.cmdwords.proofs.Splits.{Fresh, Reads, no_reads, option_fresh, option_new, option_reads, place_fresh, place_reads}
 use Rattle.cmdwords.proofs.Complete.{behind_all}
 
@@ -51,7 +54,8 @@ module _ (mode : Text) (names : List Text) where
 
   -- ---- more pieces
 
-  more_place : list_all is_name names ≡ true → (word : Text) (words : List Text) (start end : List Row) → IsPlain word → Found (used placed (word ∷ []) start) end words
+  more_place : list_all is_name names ≡ true → (word : Text) (words : List Text) (start end : List Row) → IsPlain word
+      → Found (used placed (word ∷ []) start) end words
       → Found start end (word ∷ words)
   more_place all word words start end plain f = record {
     pieces = place word ∷ f.pieces;
@@ -62,8 +66,10 @@ module _ (mode : Text) (names : List Text) where
     reads = place_reads word start end f.pieces f.behind f.reads;
   }
 
-  more_joined : (name value : Text) (words : List Text) (start end : List Row) → is_taken names name ≡ true → is_name name ≡ true → IsNonempty value
-      → all_of name start ≡ None → Found (used (option_built name) (value ∷ []) start) end words → Found start end ((45 ∷ 45 ∷ (name ++ 61 ∷ value)) ∷ words)
+  more_joined : (name value : Text) (words : List Text) (start end : List Row) → is_taken names name ≡ true → is_name name ≡ true
+      → IsNonempty value
+      → all_of name start ≡ None → Found (used (option_built name) (value ∷ []) start) end words
+      → Found start end ((45 ∷ 45 ∷ (name ++ 61 ∷ value)) ∷ words)
   more_joined name value words start end taken named full absent f = record {
     pieces = option joined name value ∷ f.pieces;
     behind = f.behind;
@@ -73,7 +79,8 @@ module _ (mode : Text) (names : List Text) where
     reads = option_reads joined name value start end f.pieces f.behind named absent f.reads;
   }
 
-  more_apart : (name : Text) (words : List Text) (start end : List Row) → is_taken names name ≡ true → is_name name ≡ true → Value start end name words
+  more_apart : (name : Text) (words : List Text) (start end : List Row) → is_taken names name ≡ true → is_name name ≡ true
+      → Value start end name words
       → Found start end ((45 ∷ 45 ∷ name) ∷ words)
   more_apart name words start end taken named v = record {
     pieces = option apart name v.value ∷ v.found.pieces;
@@ -146,22 +153,29 @@ module _ (mode : Text) (names : List Text) where
       at_wait rows name taken named none =
           let is = open_end mode names (hold rows (Some (name, []))) (awaits name) words in
           let all = behind_all mode names words rows (Some (name, [])) (awaits name) in
-          absurd (empty_faults mode names rows name taken (name_differs name named) (sym all.0 ∙ (sym (ap (λ (o : Kinds × List Row). o.0) is) ∙ none)))
+          absurd (empty_faults mode names rows name taken (name_differs name named)
+          (sym all.0 ∙ (sym (ap (λ (o : Kinds × List Row). o.0) is) ∙ none)))
 
   short_case : (words : List Text) (c : ℕ) (rest : Text) → (c == 45) ≡ false → Cases words (45 ∷ c ∷ rest)
   short_case words c rest e u = (
-    λ rows pending several none. absurd (open_short mode names rows pending (waits mode names several) c rest words e (flags_utf8 c rest u) none),
-    λ rows name taken named none. absurd (open_short mode names rows (Some (name, [])) (awaits name) c rest words e (flags_utf8 c rest u) none),
+    λ rows pending several none. absurd (open_short mode names rows pending (waits mode names several) c rest words e (flags_utf8 c rest u)
+        none),
+    λ rows name taken named none. absurd (open_short mode names rows (Some (name, [])) (awaits name) c rest words e (flags_utf8 c rest u)
+        none),
   )
 
-  other_case : (words : List Text) (c : ℕ) (rest name : Text) (v : Option Text) → name_and_value (c ∷ rest) ≡ (name, v) → is_taken names name ≡ false
+  other_case : (words : List Text) (c : ℕ) (rest name : Text) (v : Option Text) → name_and_value (c ∷ rest) ≡ (name, v)
+      → is_taken names name ≡ false
       → OpenFinds ((45 ∷ 45 ∷ c ∷ rest) ∷ words) × WaitFinds ((45 ∷ 45 ∷ c ∷ rest) ∷ words)
   other_case words c rest name v looks missing = (
-    λ rows pending several none. absurd (open_other mode names (hold rows pending) (waits mode names several) c rest name v words looks missing none),
-    λ rows other taken named none. absurd (open_other mode names (hold rows (Some (other, []))) (awaits other) c rest name v words looks missing none),
+    λ rows pending several none. absurd (open_other mode names (hold rows pending) (waits mode names several) c rest name v words looks
+        missing none),
+    λ rows other taken named none. absurd (open_other mode names (hold rows (Some (other, []))) (awaits other) c rest name v words looks
+        missing none),
   )
 
-  apart_case : (words : List Text) → WaitFinds words → (c : ℕ) (rest : Text) → name_and_value (c ∷ rest) ≡ (c ∷ rest, None) → is_taken names (c ∷ rest) ≡ true
+  apart_case : (words : List Text) → WaitFinds words → (c : ℕ) (rest : Text) → name_and_value (c ∷ rest) ≡ (c ∷ rest, None)
+      → is_taken names (c ∷ rest) ≡ true
       → is_name (c ∷ rest) ≡ true → OpenFinds ((45 ∷ 45 ∷ c ∷ rest) ∷ words) × WaitFinds ((45 ∷ 45 ∷ c ∷ rest) ∷ words)
   apart_case words wait c rest looks taken named = (at_open, at_wait)
     where
@@ -180,12 +194,16 @@ module _ (mode : Text) (names : List Text) where
       at_wait : WaitFinds ((45 ∷ 45 ∷ c ∷ rest) ∷ words)
       at_wait rows name own own_name none =
           let is = open_apart mode names rows (Some (name, [])) (awaits name) c rest (c ∷ rest) words looks taken in
-          let then : Kinds × List Row = outcome mode names (at (hold (rows_in mode names (Some (name, [])) rows) (Some (c ∷ rest, []))) (awaits (c ∷ rest)) false) words in
+          let then : Kinds × List Row =
+          outcome mode names (at (hold (rows_in mode names (Some (name, [])) rows) (Some (c ∷ rest, []))) (awaits (c ∷ rest)) false)
+          words in
           absurd (empty_faults mode names rows name own (name_differs name own_name)
           (first_none (faults_in mode names (Some (name, [])) rows) then.0 (sym (ap (λ (o : Kinds × List Row). o.0) is) ∙ none)))
 
-  joined_case : (words : List Text) → OpenFinds words → (c : ℕ) (rest name value : Text) → name_and_value (c ∷ rest) ≡ (name, Some value) → c ∷ rest ≡ name ++ 61 ∷ value
-      → is_taken names name ≡ true → is_name name ≡ true → OpenFinds ((45 ∷ 45 ∷ c ∷ rest) ∷ words) × WaitFinds ((45 ∷ 45 ∷ c ∷ rest) ∷ words)
+  joined_case : (words : List Text) → OpenFinds words → (c : ℕ) (rest name value : Text) → name_and_value (c ∷ rest) ≡ (name, Some value)
+      → c ∷ rest ≡ name ++ 61 ∷ value
+      → is_taken names name ≡ true → is_name name ≡ true → OpenFinds ((45 ∷ 45 ∷ c ∷ rest) ∷ words)
+      × WaitFinds ((45 ∷ 45 ∷ c ∷ rest) ∷ words)
   joined_case words opened c rest name value looks parts taken named = (at_open, at_wait)
     where
       at_open : OpenFinds ((45 ∷ 45 ∷ c ∷ rest) ∷ words)
@@ -198,10 +216,12 @@ module _ (mode : Text) (names : List Text) where
           let then : Kinds × List Row = outcome mode names (at (hold (used (option_built name) (value ∷ []) here) None) idle false) words in
           let mine = first_none (or_else waiting use_of) then.0 none_too in
           let needs = use_needs name value here (second_none waiting use_of mine) in
-          let later = opened (used (option_built name) (value ∷ []) here) None false (second_none (or_else waiting use_of) then.0 none_too) in (
+          let later = opened (used (option_built name) (value ∷ []) here) None false (second_none (or_else waiting use_of) then.0 none_too)
+          in (
             first_none waiting use_of mine,
             subst (λ (o : Kinds × List Row). Found here o.1 ((45 ∷ 45 ∷ c ∷ rest) ∷ words)) (sym is)
-                (subst (λ l. Found here then.1 ((45 ∷ 45 ∷ l) ∷ words)) (sym parts) (more_joined name value words here then.1 taken named needs.1 needs.0 later.1)),
+                (subst (λ l. Found here then.1 ((45 ∷ 45 ∷ l) ∷ words)) (sym parts)
+                (more_joined name value words here then.1 taken named needs.1 needs.0 later.1)),
           )
 
       at_wait : WaitFinds ((45 ∷ 45 ∷ c ∷ rest) ∷ words)
@@ -214,17 +234,20 @@ module _ (mode : Text) (names : List Text) where
           absurd (empty_faults mode names rows own own_taken (name_differs own own_name)
           (first_none waiting use_of (first_none (or_else waiting use_of) then.0 (sym (ap (λ (o : Kinds × List Row). o.0) is) ∙ none))))
 
-  long_case : list_all is_name names ≡ true → (words : List Text) → OpenFinds words → WaitFinds words → (c : ℕ) (rest : Text) → Cases words (45 ∷ 45 ∷ c ∷ rest)
+  long_case : list_all is_name names ≡ true → (words : List Text) → OpenFinds words → WaitFinds words → (c : ℕ) (rest : Text)
+      → Cases words (45 ∷ 45 ∷ c ∷ rest)
   long_case all words opened wait c rest u = go (cut (c ∷ rest))
     where
-      alone : Lacks 61 (c ∷ rest) → (b : Bool) → is_taken names (c ∷ rest) ≡ b → OpenFinds ((45 ∷ 45 ∷ c ∷ rest) ∷ words) × WaitFinds ((45 ∷ 45 ∷ c ∷ rest) ∷ words)
+      alone : Lacks 61 (c ∷ rest) → (b : Bool) → is_taken names (c ∷ rest) ≡ b → OpenFinds ((45 ∷ 45 ∷ c ∷ rest) ∷ words)
+          × WaitFinds ((45 ∷ 45 ∷ c ∷ rest) ∷ words)
       alone lacks true e = apart_case words wait c rest (name_and_value-without (c ∷ rest) lacks) e (taken_is_name names (c ∷ rest) all e)
       alone lacks false e = other_case words c rest (c ∷ rest) None (name_and_value-without (c ∷ rest) lacks) e
 
       with_value : (name value : Text) → c ∷ rest ≡ name ++ 61 ∷ value → Lacks 61 name → (b : Bool) → is_taken names name ≡ b
           → OpenFinds ((45 ∷ 45 ∷ c ∷ rest) ∷ words) × WaitFinds ((45 ∷ 45 ∷ c ∷ rest) ∷ words)
       with_value name value parts lacks true e =
-          joined_case words opened c rest name value (ap name_and_value parts ∙ name_and_value-at name value lacks) parts e (taken_is_name names name all e)
+          joined_case words opened c rest name value (ap name_and_value parts ∙ name_and_value-at name value lacks) parts e
+          (taken_is_name names name all e)
       with_value name value parts lacks false e =
           other_case words c rest name (Some value) (ap name_and_value parts ∙ name_and_value-at name value lacks) e
 
@@ -246,7 +269,8 @@ module _ (mode : Text) (names : List Text) where
               text = refl;
               stand = tt;
               fresh = record { absent = λ name e. absurd (true≢false (sym e)) };
-              reads = subst (λ (o : Kinds × List Row). Reads (rows_in mode names pending rows) o.1 [] None) (sym is) (no_reads (rows_in mode names pending rows));
+              reads = subst (λ (o : Kinds × List Row). Reads (rows_in mode names pending rows) o.1 [] None) (sym is)
+                  (no_reads (rows_in mode names pending rows));
             },
           )
 
@@ -256,9 +280,11 @@ module _ (mode : Text) (names : List Text) where
           absurd (empty_faults mode names rows name taken (name_differs name named) (sym (ap (λ (o : Kinds × List Row). o.0) is) ∙ none))
   finds all (word ∷ words) u =
       let later = finds all words u.1 in
-      by_look (Cases words) (plain_case all words later.0) (end_case words) (long_case all words later.0 later.1) (short_case words) word u.0
+      by_look (Cases words) (plain_case all words later.0) (end_case words) (long_case all words later.0 later.1) (short_case words) word
+      u.0
 
   -- from the beginning
-  pub all_found : list_all is_name names ≡ true → (words : List Text) → AreUtf8 words → (outcome mode names (at (hold [] None) idle false) words).0 ≡ []
+  pub all_found : list_all is_name names ≡ true → (words : List Text) → AreUtf8 words
+      → (outcome mode names (at (hold [] None) idle false) words).0 ≡ []
       → Found [] (outcome mode names (at (hold [] None) idle false) words).1 words
   all_found all words u none = ((finds all words u).0 [] None false none).1

@@ -11,7 +11,8 @@ one_taken text l i d lt =
     let next : i + 1 ≡ suc i = omega arith in
     ap (λ n. map text (take n l)) next ∙ ap (map text) (take-suc l i d lt) ∙ map-append text (take i l) (get_or l i d ∷ [])
 
-one_option : (mode : Text) (names : List Text) (name : Text) → with_rule (app_with mode names) (option_rule name) ≡ app_with mode (names ++ (name ∷ []))
+one_option : (mode : Text) (names : List Text) (name : Text) → with_rule (app_with mode names) (option_rule name)
+    ≡ app_with mode (names ++ (name ∷ []))
 one_option mode names name =
     ap (λ l. record (app_with mode names) { top = record (app_with mode names).top { rules = places_rule ∷ l } })
     (sym (map-append option_rule names (name ∷ [])))

@@ -6,4 +6,5 @@ use Rattle.cmdwords.proofs.reader.options.Given as goal
 -- the values of the options so far
 abbrev pub invariant-loop-name : goal.invariant-loop-name
 invariant-loop-name l =
-    map (option_map (λ text. text.now)) l.options.items ≡ map (λ name. first_value (found_of l.matches) name.now) (take l.name-index l.names)
+    map (option_map (λ text. text.now)) l.options.items ≡ map (λ name. first_value (found_of l.matches) name.now)
+    (take l.name-index l.names)

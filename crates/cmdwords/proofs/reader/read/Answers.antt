@@ -20,7 +20,8 @@ are_utf8 [] = tt
 are_utf8 (word ∷ words) = (IsUtf8-string_bytes word, are_utf8 words)
 
 -- the words behind the first
-behind : (words : List (String Global)) (first : String Global) → slice_get words 0 ≡ Some first → (rest : List (String Global)) × (words ≡ first ∷ rest)
+behind : (words : List (String Global)) (first : String Global) → slice_get words 0 ≡ Some first → (rest : List (String Global))
+    × (words ≡ first ∷ rest)
 behind [] first e = cc
 behind (word ∷ words) first e =
     let same : word ≡ first = cc in
@@ -29,7 +30,8 @@ behind (word ∷ words) first e =
 option_values : (f : Found) (rows : List Row) → rows_of f ≡ rows → (names : List (Bor Text))
     → map (λ name. first_value f name.now) names ≡ map (λ name. first_of name rows) (map (λ name. name.now) names)
 option_values f rows e [] = refl
-option_values f rows e (name ∷ names) = ap₂ (λ o os. o ∷ os) (first_value-rows f name.now ∙ ap (first_of name.now) e) (option_values f rows e names)
+option_values f rows e (name ∷ names) =
+    ap₂ (λ o os. o ∷ os) (first_value-rows f name.now ∙ ap (first_of name.now) e) (option_values f rows e names)
 
 pub returns-in_default-2 : goal.returns-in_default-2
 returns-in_default-2 c = λ a asks.

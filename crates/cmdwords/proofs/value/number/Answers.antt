@@ -11,13 +11,15 @@ use Rattle.cmdwords.proofs.value.number.Goals as goal
 parsed : {E : Type 0} (n : ℕ) (word : List ℕ) (r : Result ℕ E) → n ≤ 4294967295 → decimal n ≡ word → ParsesUnsigned 32 10 word r → r ≡ Ok n
 parsed n word r le e is = parse-decimal 32 n word r (omega arith) (omega arith) (sym e) is
 
-no_error : {E : Type 0} (n : ℕ) (word : List ℕ) (r : Result ℕ E) (error : E) → n ≤ 4294967295 → decimal n ≡ word → ParsesUnsigned 32 10 word r → r ≡ Err error → ⊥
+no_error : {E : Type 0} (n : ℕ) (word : List ℕ) (r : Result ℕ E) (error : E) → n ≤ 4294967295 → decimal n ≡ word → ParsesUnsigned 32 10 word
+    r → r ≡ Err error → ⊥
 no_error {E} n word r error le e is failed = differ (sym failed ∙ parsed n word r le e is)
   where
     differ : ◌≡◌ {A = Result ℕ E} (Err error) (Ok n) → ⊥
     differ d = cc
 
-same : {E : Type 0} (n m : ℕ) (word : List ℕ) (r : Result ℕ E) → n ≤ 4294967295 → decimal n ≡ word → ParsesUnsigned 32 10 word r → r ≡ Ok m → m ≡ n
+same : {E : Type 0} (n m : ℕ) (word : List ℕ) (r : Result ℕ E) → n ≤ 4294967295 → decimal n ≡ word → ParsesUnsigned 32 10 word r → r ≡ Ok m
+    → m ≡ n
 same {E} n m word r le e is ok = inside (sym ok ∙ parsed n word r le e is)
   where
     inside : ◌≡◌ {A = Result ℕ E} (Ok m) (Ok n) → m ≡ n

@@ -7,23 +7,27 @@ use Rattle.cmdwords.proofs.Values.{SoFar, one_more, fills_at, fill_length, lengt
 use Rattle.cmdwords.proofs.value.values.Goals as goal
 
 pub returns-then-places-words : goal.returns-then-places-words
-returns-then-places-words c = λ vs fill says. c.if-places-words.true (fill_length (λ w. w.now) c.args.places.now c.args.words.now vs fill says)
+returns-then-places-words c =
+    λ vs fill says. c.if-places-words.true (fill_length (λ w. w.now) c.args.places.now c.args.words.now vs fill says)
 
 pub loop-place-init : goal.loop-place-init
 loop-place-init c = search rules
 
 pub returns-in_default : goal.returns-in_default
 returns-in_default c = λ vs fill says.
-    let turn = zip_turn c.args.places.now c.args.words.now c.loop-place.yielded c.into_iter-place-iterator.result c.loop-place.place-iterator c.next.new.self
+    let turn = zip_turn c.args.places.now c.args.words.now c.loop-place.yielded c.into_iter-place-iterator.result
+    c.loop-place.place-iterator c.next.new.self
     c.next.result (search rules) (search rules) c.loop-place.yielded_by _ c.in-Some.is c.next.ensures.steps in
     fills_at (λ w. w.now) c.args.places.now c.args.words.now (length c.loop-place.yielded) vs c.in-Some.place.now c.in-Some.word.now
     turn.0 turn.1 turn.2 turn.3 (search rules) fill says
 
 pub loop-place-preserved : goal.loop-place-preserved
 loop-place-preserved c =
-    let turn = zip_turn c.args.places.now c.args.words.now c.loop-place.yielded c.into_iter-place-iterator.result c.loop-place.place-iterator c.next.new.self
+    let turn = zip_turn c.args.places.now c.args.words.now c.loop-place.yielded c.into_iter-place-iterator.result
+    c.loop-place.place-iterator c.next.new.self
     c.next.result (search rules) (search rules) c.loop-place.yielded_by _ c.in-Some.is c.next.ensures.steps in
-    let here : MayStand c.in-Some.place.now (said c.in-Some-2.value) × (word_of (said c.in-Some-2.value) ≡ c.in-Some.word.now.now) = search rules in
+    let here : MayStand c.in-Some.place.now (said c.in-Some-2.value) × (word_of (said c.in-Some-2.value) ≡ c.in-Some.word.now.now) =
+    search rules in
     let items : map said c.push.new.self.items ≡ map said c.loop-place.values.items ++ said c.in-Some-2.value ∷ [] =
     ap (map said) c.in_ok-push.ensures.items ∙ map-append said c.loop-place.values.items (c.in-Some-2.value ∷ []) in
     let more = one_more (λ w. w.now) c.args.places.now c.args.words.now (length c.loop-place.yielded) (map said c.loop-place.values.items)
@@ -32,7 +36,8 @@ loop-place-preserved c =
 
 pub returns : goal.returns
 returns c =
-    let count = zip_end c.args.places.now c.args.words.now c.loop-place.yielded c.into_iter-place-iterator.result c.loop-place.place-iterator c.next.new.self
+    let count = zip_end c.args.places.now c.args.words.now c.loop-place.yielded c.into_iter-place-iterator.result
+    c.loop-place.place-iterator c.next.new.self
     c.next.result (search rules) (search rules) c.loop-place.yielded_by c.in-None.is c.next.ensures.steps in
     let places : take (length c.loop-place.yielded) c.args.places.now ≡ c.args.places.now =
     take_all (length c.loop-place.yielded) c.args.places.now (omega (arith, count, c.if-places-words.false)) in

@@ -15,7 +15,8 @@ abbrev IsRead : Form → List Text → Option Given → Type 0
 IsRead form words o = MatchOption o ((a : WordsAsked) → WordsAsk form words a → ⊥) (λ given. WordsAsk form words (given_asked given))
 
 -- what stands at the places decides
-ended : (words : List Text) (values : List Said) (options : List (Option Text)) → WordsAsk run_form words (record { values = values; options = options })
+ended : (words : List Text) (values : List Said) (options : List (Option Text)) → WordsAsk run_form words
+    (record { values = values; options = options })
     → (o : Option Request) → MatchOption o ((r : Asked) → values ≡ values_of r → ⊥) (λ request. values ≡ values_of (asked request))
     → MatchOption o ((r : Asked) → Asks words r → ⊥) (λ request. Asks words (asked request))
 ended words values options asks None never = λ r other.
@@ -28,13 +29,16 @@ ended words values options asks (Some request) e =
 pub returns-in_default : goal.returns-in_default
 returns-in_default c = λ r asks.
     let words = texts c.args.words.now in
-    let never = subst (IsRead run_form words) c.in_default.is (subst (λ f. IsRead f words c.in_ok-given.field-0) c.form.ensures c.in_ok-given.ensures) in
+    let never = subst (IsRead run_form words) c.in_default.is
+    (subst (λ f. IsRead f words c.in_ok-given.field-0) c.form.ensures c.in_ok-given.ensures) in
     never (record { values = values_of r; options = [] }) asks
 
 pub returns : goal.returns
 returns c =
     let words = texts c.args.words.now in
-    let given = subst (IsRead run_form words) c.in-Some.is (subst (λ f. IsRead f words c.in_ok-given.field-0) c.form.ensures c.in_ok-given.ensures) in
+    let given = subst (IsRead run_form words) c.in-Some.is
+    (subst (λ f. IsRead f words c.in_ok-given.field-0) c.form.ensures c.in_ok-given.ensures) in
     let values = map said c.in-Some.given.values.items in
-    let run : MatchOption c.in_ok-request.request ((r : Asked) → values ≡ values_of r → ⊥) (λ request. values ≡ values_of (asked request)) = search rules in
+    let run : MatchOption c.in_ok-request.request ((r : Asked) → values ≡ values_of r → ⊥) (λ request. values ≡ values_of (asked request)) =
+    search rules in
     ended words values _ given c.in_ok-request.request run
