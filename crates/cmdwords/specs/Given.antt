@@ -1,5 +1,5 @@
 -- What a reader's answer says.
-use Rattle.std.specs.Prelude.{◌≡◌, ℕ, List, map, Option, option_map, MatchOption, String, Vec}
+use Rattle.std.specs.Prelude.{◌≡◌, List, map, Option, option_map, MatchOption, String, Vec}
 use Rattle.std.specs.declared.alloc.Global.{Global}
 use Rattle.std.specs.String.{string_bytes}
 use Rattle.cmdwords.specs.Form.{Text}

@@ -1,7 +1,7 @@
 use Rattle.std.proofs.Common.{◌≡◌, ◌∙◌, rules, ap, ap₂, true}
 use Rattle.std.proofs.lemmas.Result.{IfOk-weaker}
-use Rattle.clap.specs.Simple.{App, app_of_fields, on_top, with_rule}
-use Rattle.clap.specs.Words.{app_of, rule_of}
+use Rattle.clap.specs.Simple.{app_of_fields, on_top, with_rule}
+use Rattle.clap.specs.Words.{rule_of}
 use Rattle.cmdwords.specs.Splitting.{places_rule}
 use Rattle.cmdwords.proofs.reader.places_command.Goals as goal
 

@@ -1,5 +1,5 @@
 use Rattle.std.proofs.Common.{◌≡◌, ◌∙◌, rules, Bor, List, [], ◌∷◌, Some, map, refl, sym, ap, ap₂, subst}
-use Rattle.std.specs.Prelude.{String, option_map, slice_get}
+use Rattle.std.specs.Prelude.{String, slice_get}
 use Rattle.std.specs.declared.alloc.Global.{Global}
 use Rattle.std.specs.String.{string_bytes}
 use Rattle.std.proofs.lemmas.Str.{IsUtf8-string_bytes}

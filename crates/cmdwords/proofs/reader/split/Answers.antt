@@ -1,5 +1,4 @@
 use Rattle.std.proofs.Common.{◌≡◌, Bool, true, false, ◌&&◌, refl, sym, true≢false}
-use Rattle.clap.specs.Words.{app_of, is_simple}
 use Rattle.cmdwords.proofs.reader.split.Goals as goal
 
 first : (a b : Bool) → (a && b) ≡ true → a ≡ true

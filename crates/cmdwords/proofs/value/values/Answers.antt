@@ -1,9 +1,9 @@
-use Rattle.std.proofs.Common.{◌≡◌, ◌∙◌, rules, List, [], ◌∷◌, ◌++◌, length, map, min, refl, sym, ap, subst, take, take_all, arith}
+use Rattle.std.proofs.Common.{◌≡◌, ◌∙◌, rules, [], ◌∷◌, ◌++◌, length, map, ap, take, take_all, arith}
 use Rattle.std.proofs.lemmas.Slice.Zip.{zip_turn, zip_end}
 use Rattle.std.proofs.lemmas.List.{map-append}
 use Rattle.cmdwords.specs.Asks.{MayStand, word_of}
 use Rattle.cmdwords.specs.Given.{said}
-use Rattle.cmdwords.proofs.Values.{SoFar, one_more, fills_at, fill_length, length_more}
+use Rattle.cmdwords.proofs.Values.{one_more, fills_at, fill_length, length_more}
 use Rattle.cmdwords.proofs.value.values.Goals as goal
 
 pub returns-then-places-words : goal.returns-then-places-words
