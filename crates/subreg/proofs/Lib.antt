@@ -1,1 +1,7 @@
+pub mod Elements
+pub mod Fields
+pub mod FirstHomes
+pub mod Given
+pub mod Placed
 pub mod Spans
+pub mod Whole
