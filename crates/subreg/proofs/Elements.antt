@@ -1,6 +1,6 @@
 -- Elements of lists by their places.
-use Rattle.std.proofs.Common.{◌≡◌, ◌≢◌, ℕ, zero, suc, ◌+◌, ◌<◌, List, [], ◌∷◌, ◌++◌, length, refl, ap, arith}
-use Rattle.std.specs.Prelude.{slice_get, slice_set, Some}
+use Rattle.std.proofs.Common.{◌≡◌, ◌≢◌, ℕ, zero, suc, ◌+◌, ◌<◌, List, [], ◌∷◌, ◌++◌, length, replicate, refl, ap, arith}
+use Rattle.std.specs.Prelude.{slice_get, slice_set, slice_index, Some}
 
 module _ {X : Type 0} where
   pub get-set_same : (xs : List X) (n : ℕ) (x : X) → n < length xs → slice_get (slice_set xs n x) n ≡ Some x
@@ -23,3 +23,8 @@ module _ {X : Type 0} where
   pub get-push_last : (xs : List X) (x : X) → slice_get (xs ++ x ∷ []) (length xs) ≡ Some x
   get-push_last [] x = refl
   get-push_last (y ∷ ys) x = get-push_last ys x
+
+pub zero-everywhere : (n byte : ℕ) → slice_index (replicate n 0) byte ≡ 0
+zero-everywhere zero byte = refl
+zero-everywhere (suc n) zero = refl
+zero-everywhere (suc n) (suc byte) = zero-everywhere n byte

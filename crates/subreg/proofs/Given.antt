@@ -11,6 +11,7 @@ use Rattle.subreg.specs.declared.home.Home.TheVariants as home
 use Rattle.subreg.specs.declared.home.Interval.{Interval}
 use Rattle.subreg.specs.Span.{Within}
 use Rattle.subreg.specs.Allocation.{IsField, AreApart, AreDisjoint}
+use Rattle.subreg.specs.Listed.{AreSpans}
 use Rattle.subreg.specs.Bytes.{IsGiven, IsGivenField, IsGivenSlot, slots_with}
 use Rattle.subreg.proofs.Fields.{disjoint_or_shared, within_or_not, Shared}
 use Rattle.subreg.proofs.Placed.{Placed, Owner, Holder, Takes, Gives, Step, field_same, placed-next}
@@ -119,3 +120,14 @@ module _ (registers : List Width) (spans : List Interval) (i : ℕ) (homes : Lis
       placed-next registers spans i homes old new slots slots s w (home.Field f) step (gives-field f given)
   placed-given (home.Slot n) given =
       placed-next registers spans i homes old new slots (slots + 1) s w (home.Slot n) step (gives-slot n given)
+
+-- one iteration, over what its calls answer
+pub placed-span : (registers : List Width) (spans : List Interval) (i : ℕ) (homes : List Home) (old new : List ℕ) (slots more : ℕ)
+    (s : Interval) (w : Width) (h : Home) → AreSpans registers spans → slice_get spans i ≡ Some s
+    → slice_get registers s.vreg.0 ≡ Some w → Placed registers spans i homes old slots → IsGiven old new w s slots h
+    → more ≡ slots_with h slots → Placed registers spans (i + 1) (slice_set homes s.vreg.0 h) new more
+placed-span registers spans i homes old new slots more s w h are listed wide placed given e =
+    let step : Step registers spans i homes old slots s w =
+    record { are = are; listed = listed; wide = wide; placed = placed } in
+    let P : ℕ → Type 0 = λ n. Placed registers spans (i + 1) (slice_set homes s.vreg.0 h) new n in
+    subst P (sym e) (placed-given registers spans i homes old new slots s w step h given)

@@ -112,3 +112,9 @@ module _ (registers : List Width) (spans : List Interval) (homes : List Home) (f
 
   pub placed-all : IsAllocation (Listed spans) registers homes slots
   placed-all = record { fits = record { all = placed.all; well = placed.well; apart = apart-all }; slots = crowded-all }
+
+pub placed-done : (registers : List Width) (spans : List Interval) (i : ℕ) (homes : List Home) (free_from : List ℕ) (slots : ℕ)
+    → i ≡ length spans → Placed registers spans i homes free_from slots → IsAllocation (Listed spans) registers homes slots
+placed-done registers spans i homes free_from slots e placed =
+    let P : ℕ → Type 0 = λ n. Placed registers spans n homes free_from slots in
+    placed-all registers spans homes free_from slots (subst P e placed)

@@ -1,6 +1,6 @@
 //! The bytes of the registers, each with the first place from which on nothing that was put there is needed.
 
-ghost use Rattle.std.specs.Prelude.{◌≡◌, ◌+◌, ◌<◌, ◌≤◌, length, MatchBool, MatchOption};
+ghost use Rattle.std.specs.Prelude.{◌≡◌, ℕ, ◌+◌, ◌<◌, ◌≤◌, length, slice_index, MatchBool, MatchOption};
 ghost use Rattle.prunum.specs.Width.{byte_count};
 ghost use Rattle.subreg.specs.Bytes.{AreFree, IsHeld, AreTaken, IsFreeField, AreHeld, IsGiven};
 
@@ -13,6 +13,14 @@ pub(crate) const BYTES: usize = 104;
 
 /// The first byte of R5.
 pub(crate) const FIRST: usize = 20;
+
+/// The bytes before any span has a home.
+pub(crate) fn none_taken() -> [u32; BYTES]
+    ensures size { length result ≡ BYTES }
+    ensures free { (byte : ℕ) → slice_index result byte ≡ 0 }
+{
+    [0; BYTES]
+}
 
 /// Whether nothing is needed at a place in so many bytes.
 fn are_free(free_from: &[u32], first: usize, size: usize, place: u32) -> bool

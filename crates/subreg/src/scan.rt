@@ -7,7 +7,7 @@ ghost use Rattle.subreg.specs.Listed.{Listed, AreSpans};
 ghost use Rattle.subreg.specs.Scan.{AreFirstHomes};
 
 use crate::assign::Assign;
-use crate::bytes::{BYTES, FIRST, give_home};
+use crate::bytes::{FIRST, give_home, none_taken};
 use crate::home::{Home, Interval};
 use callconv::field_at;
 use prunum::{Memory, Width};
@@ -45,7 +45,7 @@ pub fn allocate_spans(
     ensures { IfOk result (λ a. IsAllocation (Listed spans.now) registers.now a.homes a.spills) }
 {
     let mut homes = first_homes(alloc, registers)?;
-    let mut free_from = [0; BYTES];
+    let mut free_from = none_taken();
     let mut slots = 0;
     for span in spans {
         let number = span.vreg.0 as usize;
