@@ -41,8 +41,11 @@ part-in_word part.All = omega arith
 -- fields that share a byte are of one register
 pub same_register : (f g : Field) → (AreDisjoint f g → ⊥) → f.reg ≡ g.reg
 same_register f g shares =
-    elim (cases_lt f.reg g.reg) [ inl less ↦ absurd (shares (inl (omega (arith, less, part-in_word f.part)))) | inr more ↦
-      elim (cases_lt g.reg f.reg) [ inl less ↦ absurd (shares (inr (omega (arith, less, part-in_word g.part)))) | inr same ↦ omega (arith, more, same) ] ]
+    elim (cases_lt f.reg g.reg) [
+      | inl less ↦ absurd (shares (inl (omega (arith, less, part-in_word f.part))))
+      | inr more ↦
+          elim (cases_lt g.reg f.reg) [ inl less ↦ absurd (shares (inr (omega (arith, less, part-in_word g.part)))) | inr same ↦ omega (arith, more, same) ]
+    ]
 
 pub record Shared (f g : Field) : Type 0 where
   pub byte : ℕ
@@ -54,20 +57,39 @@ pub record Shared (f g : Field) : Type 0 where
 -- rows of bytes that aren't disjoint have a common one
 pub disjoint_or_shared : (f g : Field) → AreDisjoint f g ⊎ Shared f g
 disjoint_or_shared f g =
-    elim (cases_lt (first_byte g) (first_byte f + field_size f)) [ inr apart ↦ inl (inl apart) | inl left ↦
-      elim (cases_lt (first_byte f) (first_byte g + field_size g)) [ inr apart ↦ inl (inr apart) | inl right ↦
-        elim (cases_lt (first_byte f) (first_byte g)) [
-          inl less ↦ inr (record { byte = first_byte g; from = omega (arith, less); to = left; start = omega arith;
-            end_ = omega (arith, part-size_some g.part) })
-        | inr more ↦ inr (record { byte = first_byte f; from = omega arith; to = omega (arith, part-size_some f.part); start = more;
-            end_ = right })
-        ] ] ]
+    elim (cases_lt (first_byte g) (first_byte f + field_size f)) [
+      | inr apart ↦ inl (inl apart)
+      | inl left ↦
+          elim (cases_lt (first_byte f) (first_byte g + field_size g)) [
+            | inr apart ↦ inl (inr apart)
+            | inl right ↦
+                elim (cases_lt (first_byte f) (first_byte g)) [
+                  | inl less ↦ inr (record {
+                    byte = first_byte g;
+                    from = omega (arith, less);
+                    to = left;
+                    start = omega arith;
+                    end_ = omega (arith, part-size_some g.part);
+                  })
+                  | inr more ↦ inr (record {
+                    byte = first_byte f;
+                    from = omega arith;
+                    to = omega (arith, part-size_some f.part);
+                    start = more;
+                    end_ = right;
+                  })
+                ]
+          ]
+    ]
 
 -- a byte belongs to so many or not
 pub within_or_not : (byte first size : ℕ) → ((first ≤ byte) × (byte < first + size)) ⊎ ((byte < first) ⊎ (first + size ≤ byte))
 within_or_not byte first size =
-    elim (cases_lt byte first) [ inl less ↦ inr (inl less) | inr from ↦
-      elim (cases_lt byte (first + size)) [ inl to ↦ inl (from, to) | inr behind ↦ inr (inr behind) ] ]
+    elim (cases_lt byte first) [
+      | inl less ↦ inr (inl less)
+      | inr from ↦
+          elim (cases_lt byte (first + size)) [ inl to ↦ inl (from, to) | inr behind ↦ inr (inr behind) ]
+    ]
 
 -- an aligned field that begins at a byte of R5 to R25
 pub field_at-is : (f : Field) (w : Width) (first : ℕ) → IsAligned f (byte_count w) first → first % byte_count w ≡ 0 → 20 ≤ first
@@ -94,15 +116,18 @@ pub held-next : (free_from : List ℕ) (w : Width) (place first : ℕ)
     → (first % byte_count w ≡ 0 → IsHeld free_from first (byte_count w) place)
     → (g : Field) → IsField g w → first_byte g < first + 1 → IsHeld free_from (first_byte g) (field_size g) place
 held-next free_from w place first before here g field below =
-    elim (cases_lt (first_byte g) first) [ inl less ↦ before g field less | inr more ↦
-      let same : first_byte g ≡ first = omega (arith, more, below) in
-      let h = here (ap (λ n. n % byte_count w) (sym same) ∙ field.aligned) in
-      record {
-        byte = h.byte;
-        from = omega (arith, h.from, same);
-        to = omega (arith, h.to, same, field.size);
-        later = h.later;
-      } ]
+    elim (cases_lt (first_byte g) first) [
+      | inl less ↦ before g field less
+      | inr more ↦
+          let same : first_byte g ≡ first = omega (arith, more, below) in
+          let h = here (ap (λ n. n % byte_count w) (sym same) ∙ field.aligned) in
+          record {
+            byte = h.byte;
+            from = omega (arith, h.from, same);
+            to = omega (arith, h.to, same, field.size);
+            later = h.later;
+          }
+    ]
 
 pub held-all : (free_from : List ℕ) (w : Width) (place first : ℕ) → 104 ≤ first
     → ((g : Field) → IsField g w → first_byte g < first → IsHeld free_from (first_byte g) (field_size g) place)

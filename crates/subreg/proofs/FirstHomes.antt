@@ -37,19 +37,22 @@ made-more registers homes i w f below is aligned made =
     record {
       all = length-append homes (home.Field f ∷ []) ∙ ap (λ n. n + 1) made.all;
       well = λ n v h wide lives.
-        elim (cases_lt n (length homes)) [
-          inl front ↦ made.well n v h wide (sym (get-push_front homes n (home.Field f) front) ∙ lives)
-        | inr behind ↦
-            let short : n < length homes + 1 = omega (arith, slice_get_within (homes ++ home.Field f ∷ []) n h lives,
-              length-append homes (home.Field f ∷ [])) in
-            let here : n ≡ length homes = omega (arith, behind, short) in
-            let there : n ≡ i = here ∙ made.all in
-            let h-is : home.Field f ≡ h = same_Some (home.Field f) h
-              (sym (get-push_last homes (home.Field f)) ∙ ap (slice_get (homes ++ home.Field f ∷ [])) (sym here) ∙ lives) in
-            let w-is : w ≡ v = same_Some w v (sym own ∙ ap (slice_get registers) (sym there) ∙ wide) in
-            let P : Width → Type 0 = λ x. IsField f x in
-            record { field = f; is = sym h-is; well = subst P w-is (r5-is f w aligned) }
-        ];
+          elim (cases_lt n (length homes)) [
+            | inl front ↦ made.well n v h wide (sym (get-push_front homes n (home.Field f) front) ∙ lives)
+            | inr behind ↦
+                let short : n < length homes + 1 = omega (
+                  arith,
+                  slice_get_within (homes ++ home.Field f ∷ []) n h lives,
+                  length-append homes (home.Field f ∷ []),
+                ) in
+                let here : n ≡ length homes = omega (arith, behind, short) in
+                let there : n ≡ i = here ∙ made.all in
+                let h-is : home.Field f ≡ h = same_Some (home.Field f) h
+                (sym (get-push_last homes (home.Field f)) ∙ ap (slice_get (homes ++ home.Field f ∷ [])) (sym here) ∙ lives) in
+                let w-is : w ≡ v = same_Some w v (sym own ∙ ap (slice_get registers) (sym there) ∙ wide) in
+                let P : Width → Type 0 = λ x. IsField f x in
+                record { field = f; is = sym h-is; well = subst P w-is (r5-is f w aligned) }
+          ];
     }
 
 pub made-all : (registers : List Width) (homes : List Home) (i : ℕ) → i ≡ length registers → Made registers homes i

@@ -25,8 +25,8 @@ module _ (registers : List Width) (spans : List Interval) (i : ℕ) (homes : Lis
     grows-field : (byte : ℕ) → slice_index old byte ≤ slice_index new byte
     grows-field byte =
         elim (within_or_not byte (first_byte f) (field_size f)) [
-          inl own ↦ omega (arith, forward, given.free.each byte own.0 own.1, given.taken.own byte own.0 own.1)
-        | inr other ↦ omega (arith, given.taken.others byte other)
+          | inl own ↦ omega (arith, forward, given.free.each byte own.0 own.1, given.taken.own byte own.0 own.1)
+          | inr other ↦ omega (arith, given.taken.others byte other)
         ]
 
     own-field : (g : Field) (byte : ℕ) → home.Field f ≡ home.Field g → first_byte g ≤ byte → byte < first_byte g + field_size g
@@ -40,10 +40,15 @@ module _ (registers : List Width) (spans : List Interval) (i : ℕ) (homes : Lis
     from-field : (byte place : ℕ) → place < slice_index new byte → (place < slice_index old byte) ⊎ Takes (home.Field f) s byte place
     from-field byte place later =
         elim (within_or_not byte (first_byte f) (field_size f)) [
-          inl own ↦
-            inr (record { field = f; is = refl; from = own.0; to = own.1;
-              needed = omega (arith, later, given.taken.own byte own.0 own.1) })
-        | inr other ↦ inl (omega (arith, later, given.taken.others byte other))
+          | inl own ↦
+              inr (record {
+                field = f;
+                is = refl;
+                from = own.0;
+                to = own.1;
+                needed = omega (arith, later, given.taken.own byte own.0 own.1);
+              })
+          | inr other ↦ inl (omega (arith, later, given.taken.others byte other))
         ]
 
     apart-field : (j : ℕ) (t : Interval) (g : Home) (place : ℕ) → j < i → slice_get spans j ≡ Some t → Within t.from t.to place
@@ -51,10 +56,15 @@ module _ (registers : List Width) (spans : List Interval) (i : ℕ) (homes : Lis
     apart-field j t (home.Slot n) place less at in-t in-s lives = tt
     apart-field j t (home.Field g) place less at in-t in-s lives =
         elim (disjoint_or_shared g f) [
-          inl apart ↦ apart
-        | inr shared ↦
-            absurd (omega (arith, step.placed.kept j t g shared.byte less at lives shared.from shared.to,
-              given.free.each shared.byte shared.start shared.end_, in-t.1, in-s.0))
+          | inl apart ↦ apart
+          | inr shared ↦
+              absurd (omega (
+                arith,
+                step.placed.kept j t g shared.byte less at lives shared.from shared.to,
+                given.free.each shared.byte shared.start shared.end_,
+                in-t.1,
+                in-s.0,
+              ))
         ]
 
     pub gives-field : Gives registers spans i homes old new slots slots s w (home.Field f)
@@ -79,7 +89,7 @@ module _ (registers : List Width) (spans : List Interval) (i : ℕ) (homes : Lis
     apart-slot j t (home.Field g) place less at in-t in-s lives = tt
     apart-slot j t (home.Slot m) place less at in-t in-s lives =
         let below : m < slots = step.placed.well t.vreg (get_or registers t.vreg.0 B1) (home.Slot m)
-          (slice_get-get_or registers t.vreg.0 B1 (step.are.named j t at)) lives in
+        (slice_get-get_or registers t.vreg.0 B1 (step.are.named j t at)) lives in
         λ e. absurd (omega (arith, below, e, given.next))
 
     crowded-slot : (m : ℕ) (g : Field) → home.Slot n ≡ home.Slot m → IsField g w → Holder spans i homes s.from g
@@ -96,8 +106,8 @@ module _ (registers : List Width) (spans : List Interval) (i : ℕ) (homes : Lis
           started = step.are.ordered owner.number i owner.span s (omega (arith, owner.below)) owner.listed step.listed;
           needed = owner.needed;
           shares = λ apart. elim apart [
-            inl before ↦ absurd (omega (arith, before, owner.to, held.from))
-          | inr behind ↦ absurd (omega (arith, behind, held.to, owner.from))
+            | inl before ↦ absurd (omega (arith, before, owner.to, held.from))
+            | inr behind ↦ absurd (omega (arith, behind, held.to, owner.from))
           ];
         }
 

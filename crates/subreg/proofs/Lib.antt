@@ -4,4 +4,5 @@ pub mod FirstHomes
 pub mod Given
 pub mod Placed
 pub mod Spans
+pub mod Together
 pub mod Whole

@@ -147,13 +147,13 @@ module _ (registers : List Width) (spans : List Interval) (i : ℕ) (homes : Lis
       → slice_get (slice_set homes s.vreg.0 h) v.0 ≡ Some g → LivesWell more x g
   well-next well rises v x g wide lives =
       elim (cases_eq v.0 s.vreg.0) [
-        inl e ↦
-          let w-is : w ≡ x = same_Some w x (sym step.wide ∙ ap (slice_get registers) (sym e) ∙ wide) in
-          let h-is : h ≡ g = own_home g (ap (slice_get (slice_set homes s.vreg.0 h)) (sym e) ∙ lives) in
-          let P : Width → Type 0 = λ y. LivesWell more y h in
-          let Q : Home → Type 0 = λ y. LivesWell more x y in
-          subst Q h-is (subst P w-is well)
-      | inr ne ↦ lives-more slots more x g rises (step.placed.well v x g wide (sym (stays v.0 ne) ∙ lives))
+        | inl e ↦
+            let w-is : w ≡ x = same_Some w x (sym step.wide ∙ ap (slice_get registers) (sym e) ∙ wide) in
+            let h-is : h ≡ g = own_home g (ap (slice_get (slice_set homes s.vreg.0 h)) (sym e) ∙ lives) in
+            let P : Width → Type 0 = λ y. LivesWell more y h in
+            let Q : Home → Type 0 = λ y. LivesWell more x y in
+            subst Q h-is (subst P w-is well)
+        | inr ne ↦ lives-more slots more x g rises (step.placed.well v x g wide (sym (stays v.0 ne) ∙ lives))
       ]
 
   holder-stays : (place : ℕ) (g : Field) → Holder spans i homes place g → Holder spans (i + 1) (slice_set homes s.vreg.0 h) place g
@@ -204,17 +204,17 @@ module _ (registers : List Width) (spans : List Interval) (i : ℕ) (homes : Lis
       → AreApart g x
   apart-next gives j k t u g x place less below at-j at-k in-t in-u lives-t lives-u =
       elim (cases_lt k i) [
-        inl early ↦
-          step.placed.apart j k t u g x place less early at-j at-k in-t in-u
-          (was j t g (omega (arith, less, early)) at-j lives-t) (was k u x early at-k lives-u)
-      | inr late ↦
-          let last : k ≡ i = omega (arith, late, below) in
-          let early : j < i = omega (arith, less, last) in
-          let u-is : u ≡ s = same_span k u last at-k in
-          let P : Interval → Type 0 = λ y. Within y.from y.to place in
-          let x-is : h ≡ x = own_home x (ap (λ (y : Interval). slice_get (slice_set homes s.vreg.0 h) y.vreg.0) (sym u-is) ∙ lives-u) in
-          let Q : Home → Type 0 = λ y. AreApart g y in
-          subst Q x-is (gives.apart j t g place early at-j in-t (subst P u-is in-u) (was j t g early at-j lives-t))
+        | inl early ↦
+            step.placed.apart j k t u g x place less early at-j at-k in-t in-u
+            (was j t g (omega (arith, less, early)) at-j lives-t) (was k u x early at-k lives-u)
+        | inr late ↦
+            let last : k ≡ i = omega (arith, late, below) in
+            let early : j < i = omega (arith, less, last) in
+            let u-is : u ≡ s = same_span k u last at-k in
+            let P : Interval → Type 0 = λ y. Within y.from y.to place in
+            let x-is : h ≡ x = own_home x (ap (λ (y : Interval). slice_get (slice_set homes s.vreg.0 h) y.vreg.0) (sym u-is) ∙ lives-u) in
+            let Q : Home → Type 0 = λ y. AreApart g y in
+            subst Q x-is (gives.apart j t g place early at-j in-t (subst P u-is in-u) (was j t g early at-j lives-t))
       ]
 
   kept-next : Gives registers spans i homes old new slots more s w h → (j : ℕ) (t : Interval) (f : Field) (byte : ℕ) → j < i + 1
@@ -222,23 +222,23 @@ module _ (registers : List Width) (spans : List Interval) (i : ℕ) (homes : Lis
       → byte < first_byte f + field_size f → t.to < slice_index new byte
   kept-next gives j t f byte below at lives from to =
       elim (cases_lt j i) [
-        inl early ↦
-          let old-kept = step.placed.kept j t f byte early at (was j t (home.Field f) early at lives) from to in
-          omega (arith, old-kept, gives.grows byte)
-      | inr late ↦
-          let t-is : t ≡ s = same_span j t (omega (arith, late, below)) at in
-          let h-is : h ≡ home.Field f =
-          own_home (home.Field f) (ap (λ (y : Interval). slice_get (slice_set homes s.vreg.0 h) y.vreg.0) (sym t-is) ∙ lives) in
-          let P : Interval → Type 0 = λ y. y.to < slice_index new byte in
-          subst P (sym t-is) (gives.own f byte h-is from to)
+        | inl early ↦
+            let old-kept = step.placed.kept j t f byte early at (was j t (home.Field f) early at lives) from to in
+            omega (arith, old-kept, gives.grows byte)
+        | inr late ↦
+            let t-is : t ≡ s = same_span j t (omega (arith, late, below)) at in
+            let h-is : h ≡ home.Field f =
+            own_home (home.Field f) (ap (λ (y : Interval). slice_get (slice_set homes s.vreg.0 h) y.vreg.0) (sym t-is) ∙ lives) in
+            let P : Interval → Type 0 = λ y. y.to < slice_index new byte in
+            subst P (sym t-is) (gives.own f byte h-is from to)
       ]
 
   owned-next : Gives registers spans i homes old new slots more s w h → (byte place : ℕ) → place < slice_index new byte
       → Owner spans (i + 1) (slice_set homes s.vreg.0 h) byte place
   owned-next gives byte place later =
       elim (gives.from byte place later) [
-        inl before ↦ owner-stays byte place (step.placed.owned byte place before)
-      | inr takes ↦ owner-new byte place takes
+        | inl before ↦ owner-stays byte place (step.placed.owned byte place before)
+        | inr takes ↦ owner-new byte place takes
       ]
 
   crowded-next : Gives registers spans i homes old new slots more s w h → (j : ℕ) (t : Interval) (n : ℕ) (x : Width) (g : Field)
@@ -246,17 +246,17 @@ module _ (registers : List Width) (spans : List Interval) (i : ℕ) (homes : Lis
       → slice_get registers t.vreg.0 ≡ Some x → IsField g x → Holder spans (i + 1) (slice_set homes s.vreg.0 h) t.from g
   crowded-next gives j t n x g below at lives wide field =
       elim (cases_lt j i) [
-        inl early ↦
-          holder-stays t.from g (step.placed.crowded j t n x g early at (was j t (home.Slot n) early at lives) wide field)
-      | inr late ↦
-          let t-is : t ≡ s = same_span j t (omega (arith, late, below)) at in
-          let h-is : h ≡ home.Slot n =
-          own_home (home.Slot n) (ap (λ (y : Interval). slice_get (slice_set homes s.vreg.0 h) y.vreg.0) (sym t-is) ∙ lives) in
-          let w-is : x ≡ w =
-          same_Some x w (sym wide ∙ ap (λ (y : Interval). slice_get registers y.vreg.0) t-is ∙ step.wide) in
-          let P : Width → Type 0 = λ y. IsField g y in
-          let Q : Interval → Type 0 = λ y. Holder spans (i + 1) (slice_set homes s.vreg.0 h) y.from g in
-          subst Q (sym t-is) (holder-stays s.from g (gives.crowded n g h-is (subst P w-is field)))
+        | inl early ↦
+            holder-stays t.from g (step.placed.crowded j t n x g early at (was j t (home.Slot n) early at lives) wide field)
+        | inr late ↦
+            let t-is : t ≡ s = same_span j t (omega (arith, late, below)) at in
+            let h-is : h ≡ home.Slot n =
+            own_home (home.Slot n) (ap (λ (y : Interval). slice_get (slice_set homes s.vreg.0 h) y.vreg.0) (sym t-is) ∙ lives) in
+            let w-is : x ≡ w =
+            same_Some x w (sym wide ∙ ap (λ (y : Interval). slice_get registers y.vreg.0) t-is ∙ step.wide) in
+            let P : Width → Type 0 = λ y. IsField g y in
+            let Q : Interval → Type 0 = λ y. Holder spans (i + 1) (slice_set homes s.vreg.0 h) y.from g in
+            subst Q (sym t-is) (holder-stays s.from g (gives.crowded n g h-is (subst P w-is field)))
       ]
 
   pub placed-next : Gives registers spans i homes old new slots more s w h

@@ -66,17 +66,17 @@ module _ (registers : List Width) (spans : List Interval) (homes : List Home) (f
       let s : Interval = record { vreg = v; from = meet.from; to = meet.to } in
       let t : Interval = record { vreg = w; from = meet.start; to = meet.end_ } in
       elim (cases_lt meet.first.0 meet.second.0) [
-        inl less ↦
-          placed.apart meet.first.0 meet.second.0 s t h k meet.place less (slice_get_within spans meet.second.0 t meet.second.1)
-          meet.first.1 meet.second.1 meet.in_first meet.in_second at-h at-k
-      | inr more ↦ elim (cases_lt meet.second.0 meet.first.0) [
-          inl less ↦
-            apart_both k h (placed.apart meet.second.0 meet.first.0 t s k h meet.place less
+        | inl less ↦
+            placed.apart meet.first.0 meet.second.0 s t h k meet.place less (slice_get_within spans meet.second.0 t meet.second.1)
+            meet.first.1 meet.second.1 meet.in_first meet.in_second at-h at-k
+        | inr more ↦ elim (cases_lt meet.second.0 meet.first.0) [
+          | inl less ↦
+              apart_both k h (placed.apart meet.second.0 meet.first.0 t s k h meet.place less
               (slice_get_within spans meet.first.0 s meet.first.1) meet.second.1 meet.first.1 meet.in_second meet.in_first at-k at-h)
-        | inr same ↦
-            let e : meet.first.0 ≡ meet.second.0 = omega (arith, more, same) in
-            let one : s ≡ t = same_Some s t (sym meet.first.1 ∙ ap (slice_get spans) e ∙ meet.second.1) in
-            absurd (ne (ap (λ (y : Interval). y.vreg.0) one))
+          | inr same ↦
+              let e : meet.first.0 ≡ meet.second.0 = omega (arith, more, same) in
+              let one : s ≡ t = same_Some s t (sym meet.first.1 ∙ ap (slice_get spans) e ∙ meet.second.1) in
+              absurd (ne (ap (λ (y : Interval). y.vreg.0) one))
         ]
       ]
 
@@ -86,7 +86,7 @@ module _ (registers : List Width) (spans : List Interval) (homes : List Home) (f
       record {
         other = k.span.vreg;
         another = λ e. absurd (field-no_slot k.field n (same_Some (home.Field k.field) (home.Slot n)
-          (sym k.lives ∙ ap (slice_get homes) e ∙ slot)));
+            (sym k.lives ∙ ap (slice_get homes) e ∙ slot)));
         field = k.field;
         lives = k.lives;
         needed = record { from = k.span.from; to = k.span.to; span = (k.number, k.listed); within = (k.started, k.needed) };
@@ -106,8 +106,8 @@ module _ (registers : List Width) (spans : List Interval) (homes : List Home) (f
       record {
         full = λ x from to g is span field. taken-all v n x from to g slot is span field;
         others = λ from to span.
-          twenty_others (Listed spans) homes v (get_or registers v.0 B1) from
-          (λ g field. taken-all v n (get_or registers v.0 B1) from to g slot wide span field);
+            twenty_others (Listed spans) homes v (get_or registers v.0 B1) from
+            (λ g field. taken-all v n (get_or registers v.0 B1) from to g slot wide span field);
       }
 
   pub placed-all : IsAllocation (Listed spans) registers homes slots

@@ -19,7 +19,7 @@ loop-span-init c =
     record {
       bytes = c.none_taken-free_from.ensures.size;
       placed = placed-none c.args.registers.now c.args.spans.now c.in_ok-homes.homes.items c.none_taken-free_from.result
-        c.none_taken-free_from.ensures.free c.in_ok-homes.ensures;
+          c.none_taken-free_from.ensures.free c.in_ok-homes.ensures;
     }
 
 pub loop-span-preserved : goal.loop-span-preserved
@@ -29,10 +29,10 @@ loop-span-preserved c =
     record {
       bytes = omega (arith, c.give_home-home.auto.free_from, c.loop-span.invariant.bytes);
       placed = placed-span c.args.registers.now c.args.spans.now c.loop-span.span-index c.loop-span.homes.items c.loop-span.free_from
-        c.give_home-home.new.free_from c.loop-span.slots c.slots_with-slots.result s (get_or c.args.registers.now s.vreg.0 B1)
-        c.give_home-home.result c.requires listed
-        (slice_get-get_or c.args.registers.now s.vreg.0 B1 (c.requires.named c.loop-span.span-index s listed))
-        c.loop-span.invariant.placed c.give_home-home.ensures c.slots_with-slots.ensures;
+          c.give_home-home.new.free_from c.loop-span.slots c.slots_with-slots.result s (get_or c.args.registers.now s.vreg.0 B1)
+          c.give_home-home.result c.requires listed
+          (slice_get-get_or c.args.registers.now s.vreg.0 B1 (c.requires.named c.loop-span.span-index s listed))
+          c.loop-span.invariant.placed c.give_home-home.ensures c.slots_with-slots.ensures;
     }
 
 pub returns : goal.returns
@@ -40,4 +40,4 @@ returns c =
     let P : Homes → Type 0 = λ a. IsAllocation (Listed c.args.spans.now) c.args.registers.now a.homes a.spills in
     subst P (sym c.new.ensures)
     (placed-done c.args.registers.now c.args.spans.now c.loop-span.span-index c.loop-span.homes.items c.loop-span.free_from
-      c.loop-span.slots (omega (arith, c.loop-span-test.false, c.loop-span.auto.span-index-end)) c.loop-span.invariant.placed)
+    c.loop-span.slots (omega (arith, c.loop-span-test.false, c.loop-span.auto.span-index-end)) c.loop-span.invariant.placed)

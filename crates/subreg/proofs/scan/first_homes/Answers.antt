@@ -12,10 +12,10 @@ loop-width-init c =
 pub loop-width-preserved : goal.loop-width-preserved
 loop-width-preserved c =
     let P : List Home → Type 0 = λ xs. Made c.args.registers.now xs (c.loop-width.width-index + 1) in
-    subst P (sym c.in_ok-push.ensures.items)
+    subst P (sym {A = List Home} c.in_ok-push.ensures.items)
     (made-more c.args.registers.now c.loop-width.homes.items c.loop-width.width-index
-      (get_or c.args.registers.now c.loop-width.width-index B1) c.field_at.result c.loop-width-test.true refl
-      (record { at = c.field_at.ensures.at; size = c.field_at.ensures.size }) c.loop-width.invariant)
+    (get_or c.args.registers.now c.loop-width.width-index B1) c.field_at.result c.loop-width-test.true refl
+    (record { at = c.field_at.ensures.at; size = c.field_at.ensures.size }) c.loop-width.invariant)
 
 pub returns : goal.returns
 returns c =
