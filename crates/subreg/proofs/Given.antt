@@ -1,5 +1,5 @@
 -- What a field or a slot does for the next span.
-use Rattle.std.proofs.Common.{◌≡◌, ◌≢◌, ℕ, ◌+◌, ◌<◌, ◌≤◌, ◌⊎◌, inl, inr, List, length, get_or, refl, sym, ◌∙◌, ap, subst, arith}
+use Rattle.std.proofs.Common.{◌≡◌, ℕ, ◌+◌, ◌<◌, ◌≤◌, ◌⊎◌, inl, inr, List, get_or, refl, sym, ap, subst, arith}
 use Rattle.std.specs.Prelude.{slice_get, slice_set, slice_index, Some}
 use Rattle.std.proofs.lemmas.Option.{slice_get-get_or}
 use Rattle.prunum.specs.declared.width.Width.{Width}
@@ -10,11 +10,11 @@ use Rattle.subreg.specs.declared.home.Home.{Home}
 use Rattle.subreg.specs.declared.home.Home.TheVariants as home
 use Rattle.subreg.specs.declared.home.Interval.{Interval}
 use Rattle.subreg.specs.Span.{Within}
-use Rattle.subreg.specs.Allocation.{IsField, AreApart, AreDisjoint}
+use Rattle.subreg.specs.Allocation.{IsField, AreApart}
 use Rattle.subreg.specs.Listed.{AreSpans}
 use Rattle.subreg.specs.Bytes.{IsGiven, IsGivenField, IsGivenSlot, slots_with}
-use Rattle.subreg.proofs.Fields.{disjoint_or_shared, within_or_not, Shared}
-use Rattle.subreg.proofs.Placed.{Placed, Owner, Holder, Takes, Gives, Step, field_same, placed-next}
+use Rattle.subreg.proofs.Fields.{disjoint_or_shared, within_or_not}
+use Rattle.subreg.proofs.Placed.{Placed, Holder, Takes, Gives, Step, field_same, placed-next}
 
 module _ (registers : List Width) (spans : List Interval) (i : ℕ) (homes : List Home) (old new : List ℕ) (slots : ℕ) (s : Interval)
     (w : Width) (step : Step registers spans i homes old slots s w) where

@@ -1,10 +1,9 @@
 -- What holds once some spans have their homes, and how one more keeps it.
-use Rattle.std.proofs.Common.{◌≡◌, ◌≢◌, ℕ, ◌+◌, ◌<◌, ◌≤◌, ◌⊎◌, inl, inr, List, length, length-set, get_or, refl, sym, ◌∙◌, ap, subst, arith}
+use Rattle.std.proofs.Common.{◌≡◌, ◌≢◌, ℕ, ◌+◌, ◌<◌, ◌≤◌, ◌⊎◌, inl, inr, List, length, length-set, sym, ◌∙◌, ap, subst, arith}
 use Rattle.std.specs.Prelude.{slice_get, slice_set, slice_index, Some}
 use Rattle.std.proofs.lemmas.Bool.{cases_lt, cases_eq}
-use Rattle.std.proofs.lemmas.Option.{same_Some, slice_get-get_or}
+use Rattle.std.proofs.lemmas.Option.{same_Some}
 use Rattle.prunum.specs.declared.width.Width.{Width}
-use Rattle.prunum.specs.declared.width.Width.TheVariants.{B1}
 use Rattle.isa.specs.declared.field.Field.{Field}
 use Rattle.midcode.specs.declared.register.VReg.{VReg}
 use Rattle.callconv.specs.Places.{first_byte, field_size}
@@ -14,9 +13,7 @@ use Rattle.subreg.specs.declared.home.Interval.{Interval}
 use Rattle.subreg.specs.Span.{Within}
 use Rattle.subreg.specs.Allocation.{IsField, LivesWell, AreApart, AreDisjoint}
 use Rattle.subreg.specs.Listed.{AreSpans}
-use Rattle.subreg.specs.Bytes.{IsGiven, IsGivenField, IsGivenSlot, slots_with}
 use Rattle.subreg.specs.Scan.{IsFieldHome, AreFirstHomes}
-use Rattle.subreg.proofs.Fields.{disjoint_or_shared, within_or_not}
 use Rattle.subreg.proofs.Elements.{get-set_same, get-set_other}
 
 module _ (spans : List Interval) where

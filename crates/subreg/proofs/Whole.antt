@@ -1,18 +1,16 @@
 -- Once all spans have their homes, the homes are an allocation.
-use Rattle.std.proofs.Common.{◌≡◌, ◌≢◌, ℕ, ◌+◌, ◌*◌, ◌%◌, ◌<◌, ◌≤◌, ◌⊎◌, inl, inr, List, length, get_or, refl, sym, ◌∙◌, ap, subst, arith}
+use Rattle.std.proofs.Common.{◌≡◌, ◌≢◌, ℕ, ◌+◌, ◌%◌, ◌<◌, inl, inr, List, length, get_or, sym, ◌∙◌, ap, subst, arith}
 use Rattle.std.specs.Prelude.{slice_get, Some}
-use Rattle.std.proofs.lemmas.Bool.{cases_lt, cases_eq}
+use Rattle.std.proofs.lemmas.Bool.{cases_lt}
 use Rattle.std.proofs.lemmas.Option.{same_Some, slice_get-get_or, slice_get_within}
 use Rattle.prunum.specs.declared.width.Width.{Width}
 use Rattle.prunum.specs.declared.width.Width.TheVariants.{B1}
 use Rattle.isa.specs.declared.field.Field.{Field}
 use Rattle.midcode.specs.declared.register.VReg.{VReg}
-use Rattle.callconv.specs.Places.{first_byte, field_size}
 use Rattle.subreg.specs.declared.home.Home.{Home}
 use Rattle.subreg.specs.declared.home.Home.TheVariants as home
 use Rattle.subreg.specs.declared.home.Interval.{Interval}
-use Rattle.subreg.specs.Span.{Within}
-use Rattle.subreg.specs.Allocation.{IsField, LivesWell, AreApart, AreDisjoint, Meet, Fits, Covers, IsTaken, TwentyOthers, IsCrowded, IsAllocation}
+use Rattle.subreg.specs.Allocation.{IsField, AreApart, Meet, IsTaken, TwentyOthers, IsCrowded, IsAllocation}
 use Rattle.subreg.specs.Listed.{Listed}
 use Rattle.subreg.proofs.Fields.{same_register, word_field, word_field-is}
 use Rattle.subreg.proofs.Placed.{Placed, Holder, field_same}

@@ -1,4 +1,4 @@
-use Rattle.std.proofs.Common.{◌%◌, arith, ap, ◌∙◌, sym}
+use Rattle.std.proofs.Common.{◌%◌, arith, ap, ◌∙◌}
 use Rattle.subreg.proofs.Fields.{held-next, held-all, held-of_width, false_part}
 use Rattle.subreg.proofs.bytes.free_field.Goals as goal
 use Rattle.subreg.proofs.bytes.free_field.Goals.{else-first-size-eq0-via-then-first-size-eq0+else-are_free, else-first-size-eq0-via-else-first-size-eq0}

@@ -1,4 +1,4 @@
-use Rattle.std.proofs.Common.{ℕ, ◌<◌}
+use Rattle.std.proofs.Common.{◌<◌}
 use Rattle.isa.specs.declared.field.Field.{Field}
 use Rattle.callconv.specs.Places.{first_byte, field_size}
 use Rattle.subreg.specs.Allocation.{IsField}

@@ -1,4 +1,4 @@
-use Rattle.std.proofs.Common.{◌≡◌, ◌+◌, ◌<◌, ◌≤◌, List, length, get_or, refl, sym, ap, subst, arith}
+use Rattle.std.proofs.Common.{get_or, sym, subst, arith}
 use Rattle.std.proofs.lemmas.Option.{slice_get-get_or}
 use Rattle.prunum.specs.declared.width.Width.TheVariants.{B1}
 use Rattle.subreg.specs.declared.home.Interval.{Interval}
