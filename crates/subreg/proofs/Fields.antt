@@ -44,7 +44,10 @@ same_register f g shares =
     elim (cases_lt f.reg g.reg) [
       | inl less ↦ absurd (shares (inl (omega (arith, less, part-in_word f.part))))
       | inr more ↦
-          elim (cases_lt g.reg f.reg) [ inl less ↦ absurd (shares (inr (omega (arith, less, part-in_word g.part)))) | inr same ↦ omega (arith, more, same) ]
+          elim (cases_lt g.reg f.reg) [
+            | inl less ↦ absurd (shares (inr (omega (arith, less, part-in_word g.part))))
+            | inr same ↦ omega (arith, more, same)
+          ]
     ]
 
 pub record Shared (f g : Field) : Type 0 where
@@ -104,7 +107,8 @@ field_at-is f w first is aligned from to =
 
 -- ---- the search for a free field
 
-pub held-of_width : (free_from : List ℕ) (first size place n : ℕ) → size ≡ n → IsHeld free_from first size place → IsHeld free_from first n place
+pub held-of_width : (free_from : List ℕ) (first size place n : ℕ) → size ≡ n → IsHeld free_from first size place
+    → IsHeld free_from first n place
 held-of_width free_from first size place n e h = record { byte = h.byte; from = h.from; to = omega (arith, h.to, e); later = h.later }
 
 pub false_part : (b : Bool) (P Q : Type 0) → b ≡ false → MatchBool b P Q → Q

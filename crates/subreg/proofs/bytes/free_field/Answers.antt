@@ -1,7 +1,8 @@
 use Rattle.std.proofs.Common.{◌%◌, arith, ap, ◌∙◌}
 use Rattle.subreg.proofs.Fields.{held-next, held-all, held-of_width, false_part}
 use Rattle.subreg.proofs.bytes.free_field.Goals as goal
-use Rattle.subreg.proofs.bytes.free_field.Goals.{else-first-size-eq0-via-then-first-size-eq0+else-are_free, else-first-size-eq0-via-else-first-size-eq0}
+use Rattle.subreg.proofs.bytes.free_field.Goals.{else-first-size-eq0-via-then-first-size-eq0+else-are_free}
+use Rattle.subreg.proofs.bytes.free_field.Goals.{else-first-size-eq0-via-else-first-size-eq0}
 
 pub loop-first-init : goal.loop-first-init
 loop-first-init c = λ g field below. absurd (omega (arith, field.from, below))
