@@ -35,7 +35,8 @@ fn slots_with(home: Home, slots: u32) -> u32
 }
 
 /// Gives each register a home of its width. Those whose spans share a place have no byte and no slot in common, and a slot is given
-/// only where no aligned field of the width is free at the start of the span.
+/// only where no aligned field of the width is free at the start of the span. `registers` has the widths by number; `spans` has at
+/// most one span for each, in the order of their starts. A register without a span gets a field too, which others may take.
 pub fn allocate_spans(
     alloc: Global,
     registers: &[Width],
