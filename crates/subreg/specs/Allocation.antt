@@ -1,15 +1,13 @@
 -- Where virtual registers live: fields of R5 to R25, and slots.
-use Rattle.std.specs.Prelude.{◌≡◌, ◌≢◌, ℕ, ◌+◌, ◌%◌, ◌<◌, ◌≤◌, ◌⊎◌, List, nat_eq, length, Some, slice_get, All}
-use Rattle.std.specs.List.{IsDistinct}
+use Rattle.std.specs.Prelude.{◌≡◌, ◌≢◌, ℕ, ◌+◌, ◌%◌, ◌<◌, ◌≤◌, ◌⊎◌, List, length, Some, slice_get}
 use Rattle.prunum.specs.Width.{byte_count}
 use Rattle.prunum.specs.declared.width.Width.{Width}
 use Rattle.isa.specs.declared.field.Field.{Field}
 use Rattle.midcode.specs.declared.register.VReg.{VReg}
-use Rattle.midcode.specs.Function.{Function}
 use Rattle.callconv.specs.Places.{first_byte, field_size}
 use Rattle.subreg.specs.declared.home.Home.{Home}
 use Rattle.subreg.specs.declared.home.Home.TheVariants as home
-use Rattle.subreg.specs.Span.{IsSpan, Within}
+use Rattle.subreg.specs.Span.{Within}
 
 -- An aligned field of this width in R5 to R25, whose bytes are 20 to 103.
 pub record IsField (f : Field) (w : Width) : Type 0 where
@@ -30,54 +28,58 @@ AreApart (home.Field f) (home.Field g) = AreDisjoint f g
 AreApart (home.Slot m) (home.Slot n) = m ≢ n
 AreApart _ _ = Unit {0}
 
--- some place lies in the spans of both
-pub record Meet (f : Function) (v w : VReg) : Type 0 where
-  pub place : ℕ
-  pub from : ℕ
-  pub to : ℕ
-  pub start : ℕ
-  pub end_ : ℕ
-  pub first : IsSpan f v from to
-  pub second : IsSpan f w start end_
-  pub in_first : Within from to place
-  pub in_second : Within start end_ place
+-- HasSpan v from to says that v may be needed from a place to a place, both among them.
+module _ (HasSpan : VReg → ℕ → ℕ → Type 0) where
+  -- some place lies in the spans of both
+  pub record Meet (v w : VReg) : Type 0 where
+    pub place : ℕ
+    pub from : ℕ
+    pub to : ℕ
+    pub start : ℕ
+    pub end_ : ℕ
+    pub first : HasSpan v from to
+    pub second : HasSpan w start end_
+    pub in_first : Within from to place
+    pub in_second : Within start end_ place
 
--- Each register of a function has a home of its width, and homes whose registers are needed at one place are apart.
-pub record Fits (f : Function) (homes : List Home) (spills : ℕ) : Type 0 where
-  pub all : length homes ≡ length f.registers
-  pub well : (v : VReg) (w : Width) (h : Home) → slice_get f.registers v.0 ≡ Some w → slice_get homes v.0 ≡ Some h → LivesWell spills w h
-  pub apart : (v w : VReg) (h k : Home) → v.0 ≢ w.0 → slice_get homes v.0 ≡ Some h → slice_get homes w.0 ≡ Some k → Meet f v w
-      → AreApart h k
+  -- Each register has a home of its width, and homes whose registers are needed at one place are apart.
+  pub record Fits (registers : List Width) (homes : List Home) (spills : ℕ) : Type 0 where
+    pub all : length homes ≡ length registers
+    pub well : (v : VReg) (w : Width) (h : Home) → slice_get registers v.0 ≡ Some w → slice_get homes v.0 ≡ Some h
+        → LivesWell spills w h
+    pub apart : (v w : VReg) (h k : Home) → v.0 ≢ w.0 → slice_get homes v.0 ≡ Some h → slice_get homes w.0 ≡ Some k → Meet v w
+        → AreApart h k
 
--- a register other than v whose span covers a place
-pub record Covers (f : Function) (place : ℕ) (v : VReg) : Type 0 where
-  pub from : ℕ
-  pub to : ℕ
-  pub span : IsSpan f v from to
-  pub within : Within from to place
+  -- the span of a register covers a place
+  pub record Covers (place : ℕ) (v : VReg) : Type 0 where
+    pub from : ℕ
+    pub to : ℕ
+    pub span : HasSpan v from to
+    pub within : Within from to place
 
--- at the start of v's span the field is taken by another register that lives in a field
-pub record IsTaken (f : Function) (homes : List Home) (place : ℕ) (v : VReg) (g : Field) : Type 0 where
-  pub other : VReg
-  pub another : other.0 ≢ v.0
-  pub field : Field
-  pub lives : slice_get homes other.0 ≡ Some (home.Field field)
-  pub needed : Covers f place other
-  pub shares : AreDisjoint field g → ⊥
+  -- at this place the field is taken by a register other than v that lives in a field
+  pub record IsTaken (homes : List Home) (place : ℕ) (v : VReg) (g : Field) : Type 0 where
+    pub other : VReg
+    pub another : other.0 ≢ v.0
+    pub field : Field
+    pub lives : slice_get homes other.0 ≡ Some (home.Field field)
+    pub needed : Covers place other
+    pub shares : AreDisjoint field g → ⊥
 
--- twenty registers other than v, each once, whose spans cover a place
-pub record TwentyOthers (f : Function) (place : ℕ) (v : VReg) : Type 0 where
-  pub others : List ℕ
-  pub count : 20 ≤ length others
-  pub distinct : IsDistinct nat_eq others
-  pub cover : All (λ n. (n ≢ v.0) × Covers f place (record { 0 = n })) others
+  -- twenty registers other than v, no two of them the same, whose spans cover a place
+  pub record TwentyOthers (place : ℕ) (v : VReg) : Type 0 where
+    pub other : ℕ → VReg
+    pub another : (n : ℕ) → n < 20 → (other n).0 ≢ v.0
+    pub distinct : (m n : ℕ) → m < n → n < 20 → (other m).0 ≢ (other n).0
+    pub cover : (n : ℕ) → n < 20 → Covers place (other n)
 
--- A slot is given only where no aligned field of the width is free at the start of the span, and then at least 20 other spans cover it.
-pub record IsCrowded (f : Function) (homes : List Home) (v : VReg) : Type 0 where
-  pub full : (w : Width) (from to : ℕ) (g : Field) → slice_get f.registers v.0 ≡ Some w → IsSpan f v from to → IsField g w
-      → IsTaken f homes from v g
-  pub others : (from to : ℕ) → IsSpan f v from to → TwentyOthers f from v
+  -- no aligned field of its width is free at the start of the register's span, and at least 20 other spans cover that start
+  pub record IsCrowded (registers : List Width) (homes : List Home) (v : VReg) : Type 0 where
+    pub full : (w : Width) (from to : ℕ) (g : Field) → slice_get registers v.0 ≡ Some w → HasSpan v from to → IsField g w
+        → IsTaken homes from v g
+    pub others : (from to : ℕ) → HasSpan v from to → TwentyOthers from v
 
-pub record IsAllocation (f : Function) (homes : List Home) (spills : ℕ) : Type 0 where
-  pub fits : Fits f homes spills
-  pub slots : (v : VReg) (n : ℕ) → slice_get homes v.0 ≡ Some (home.Slot n) → IsCrowded f homes v
+  -- The homes fit, and a slot is given only where it is crowded.
+  pub record IsAllocation (registers : List Width) (homes : List Home) (spills : ℕ) : Type 0 where
+    pub fits : Fits registers homes spills
+    pub slots : (v : VReg) (n : ℕ) → slice_get homes v.0 ≡ Some (home.Slot n) → IsCrowded registers homes v
