@@ -16,13 +16,9 @@ use Rattle.lowerstate.specs.Counted.{Counted, counted}
 use Rattle.lowerstate.specs.Held.{Meant, meant_width, Home, Held}
 use Rattle.lowerstate.specs.Related.{Fixed, Call, IsCall, Kept, Point, homes_with, IsKept, Related, stepped}
 use Rattle.lowerstate.specs.Stands.{Ends, Does}
-use Rattle.lowerstate.specs.Piece.{Code, Free, next_register, followed, IsIn, IsReady, onwards, Given, Evaluates, register}
+use Rattle.lowerstate.specs.Piece.{Code, Free, next_register, followed, node_back, IsIn, IsReady, onwards, Given, Evaluates, register}
 use Rattle.lowerstate.proofs.Laws.{tick-does, written, width-at, wrote}
 use Rattle.lowerstate.proofs.Places.{stands-at, stands-first, stands-left, stands-right, one-longer, get-last}
-
--- what is in hand behind every node
-abbrev pub node_back : ℕ
-node_back = 320
 
 pub below-more : (ks : List Kept) (p q : ℕ) → p ≤ q → AllByRecursion (λ k. k.register < p) ks → AllByRecursion (λ k. k.register < q) ks
 below-more [] p q more below = tt
@@ -93,7 +89,7 @@ module _ (r : Fixed) (c : Call) where
         (Given r c code Is t nodes back x hand) (Given r c code Is t (nodes + 1) node_back x hand)
         (run r.budget s) (λ a. then_do tick (give a) r.budget) m
         (first.does x hand s m stands
-        (record { in_hand = ready.in_hand; owed = let owed = ready.owed in omega (arith, owed); kept = ready.kept }) related)
+        (record { in_hand = ready.in_hand; owed = let owed = ready.owed in omega (arith, owed); kept = ready.kept; apart = ready.apart }) related)
         (λ a s m at. after x hand a s m at.0 at.1 (let owed = ready.owed in omega (arith, owed)) at.2);
   }
     where
@@ -139,7 +135,7 @@ module _ (r : Fixed) (c : Call) (call : IsCall r c) where
   }
     where
       after : (x : Point) (hand : ℕ) (a : A) (s : State) (m : Counted) (d : Datum) → Is a d
-          → IsIn c f (followed f code k (meant_width u)) x.place → IsReady r f nodes hand x
+          → IsIn c f (followed f code k (meant_width u)) x.place → IsReady r c f nodes hand x
           → Related r c (onwards x code nodes hand back t d) s m
           → Does r (Given r c (followed f code k (meant_width u)) Is' u nodes left x hand) (next a r.budget s) m
       after x hand a s m d is stands ready related =
