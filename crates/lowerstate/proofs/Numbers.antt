@@ -41,7 +41,7 @@ use Rattle.lowerstate.proofs.Pairs.{both-op}
 -- ---- what is read
 
 module _ {A : Type 0} where
-  got : (s : machine.State) (q : VReg) (v : ℕ) (f : ℕ → machine.Does A) → s.frame.registers q.0 ≡ Some v
+  pub got : (s : machine.State) (q : VReg) (v : ℕ) (f : ℕ → machine.Does A) → s.frame.registers q.0 ≡ Some v
       → machine.in_turn (machine.get q) f s ≡ f v s
   got s q v f is = ap (λ o. and_then (machine.known o s) f) is
 
@@ -125,7 +125,7 @@ module _ (r : Fixed) (c : Call) (call : IsCall r c) where
       next-op r c call {Is = IsNumber} {Is' = IsValue} f code (word s) (word t) run nodes (left + 9) left
       (λ n. number_value (unary Minus n))
       (op.Unary one.Negate (register (next_register f code)) (register code.result)) first (omega arith)
-      (λ homes m n d v is held reg width.
+      (λ homes m n d v within is held reg width.
       let at = number-held (record { width = B4; sign = s }) homes n d v is held in
       let agrees = unary-agrees-minus n in (
         Some (Number (unary Minus n)),
@@ -145,7 +145,7 @@ module _ (r : Fixed) (c : Call) (call : IsCall r c) where
       next-op r c call {Is = IsNumber} {Is' = IsValue} f code (word s) (word t) run nodes (left + 9) left
       (λ n. number_value (unary Complement n))
       (op.Unary one.Complement (register (next_register f code)) (register code.result)) first (omega arith)
-      (λ homes m n d v is held reg width.
+      (λ homes m n d v within is held reg width.
       let at = number-held (record { width = B4; sign = s }) homes n d v is held in
       let agrees = unary-agrees-complement n in (
         Some (Number (unary Complement n)),

@@ -1,5 +1,6 @@
 -- The code of each kind of expression, made of the codes of its parts.
-use Rattle.std.specs.Prelude.{ℕ, if◌then◌else◌, [], ◌∷◌}
+use Rattle.std.specs.Prelude.{ℕ, if◌then◌else◌, [], ◌∷◌, ◌++◌}
+use Rattle.prunum.specs.declared.width.Width.{Width}
 use Rattle.prunum.specs.declared.width.Width.TheVariants.{B4}
 use Rattle.csyn.specs.declared.specifiers.Sign.{Sign}
 use Rattle.csyn.specs.declared.operator.ComparisonOperator.{ComparisonOperator}
@@ -28,3 +29,11 @@ swapped_code o f a b = followed f (joined a b)
 
 abbrev pub comparison_code : ComparisonOperator → Sign → Free → Code → Code → Code
 comparison_code o sign f a b = if is_swapped o then swapped_code (comparing o sign) f a b else pair_code (comparing o sign) f a b
+
+-- the value of a register, in one of its own
+abbrev pub copy_code : Width → ℕ → Free → Code
+copy_code w q f = record { ops = op.Copy (register f.register) (register q) ∷ []; widths = w ∷ []; labels = 0; result = f.register }
+
+-- the value goes to a register too
+abbrev pub assign_code : ℕ → Code → Code
+assign_code q a = record a { ops = a.ops ++ op.Copy (register q) (register a.result) ∷ [] }

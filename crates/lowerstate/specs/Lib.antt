@@ -1,4 +1,5 @@
 pub mod Codes
+pub mod Conversion
 pub mod Counted
 pub mod Held
 pub mod Operators

@@ -1,5 +1,5 @@
 -- What the pieces of code do, a law for each way in which an expression is made.
-use Rattle.std.specs.Prelude.{ℕ, ◌≡◌, ◌+◌, ◌^◌, ◌<◌, ◌≤◌, ◌++◌, [], ◌∷◌, Some, slice_get}
+use Rattle.std.specs.Prelude.{ℕ, ◌≡◌, ◌+◌, ◌^◌, ◌<◌, ◌≤◌, ◌++◌, not, [], ◌∷◌, Some, slice_get}
 use Rattle.behaviour.specs.Ran.{Done}
 use Rattle.prutrace.specs.declared.event.Event.{Event}
 use Rattle.csyn.specs.declared.specifiers.Sign.{Sign}
@@ -12,20 +12,29 @@ use Rattle.midcode.specs.Cost.{charge}
 use Rattle.midcode.specs.Machine as machine
 use Rattle.midcode.specs.Meaning.{effect, charged}
 use Rattle.cprogram.specs.declared.value.UnaryOperator.TheVariants.{Minus, Complement}
-use Rattle.cmean.specs.Datum.{unary, binary, comparison, leftmost_bit}
-use Rattle.cmean.specs.State.{State, Run, then_with, then_do, node, show}
-use Rattle.cmean.specs.Expression.{Valued, both, number_value}
+use Rattle.csyn.specs.declared.span.Span.{Span}
+use Rattle.cprogram.specs.declared.access.Access.{Access}
+use Rattle.cprogram.specs.declared.scalar.Conversion.{Conversion}
+use Rattle.cmean.specs.Datum.{Datum, unary, binary, comparison, leftmost_bit, truth_number}
+use Rattle.cmean.specs.State.{State, Run, give, with_state, then_with, then_do, node, show}
+use Rattle.cmean.specs.Access.{Target, load}
+use Rattle.cmean.specs.Expression.{Valued, both, number_value, operand, truth, valued, whole, assign}
 use Rattle.lowerstate.specs.Counted.{Counted}
-use Rattle.lowerstate.specs.Held.{Meant}
+use Rattle.lowerstate.specs.Held.{Meant, meant_width, InRegister}
 use Rattle.lowerstate.specs.Related.{Fixed, Call, Point, Related}
 use Rattle.lowerstate.specs.Stands.{Does}
 use Rattle.lowerstate.specs.Operators.{operation}
-use Rattle.lowerstate.specs.Piece.{Code, Free, behind, joined, least_hand, node_back, Evaluates, IsValue, IsNumber, word}
-use Rattle.lowerstate.specs.Codes.{constant_code, unary_code, pair_code, comparison_code}
+use Rattle.lowerstate.specs.Piece.{Code, Free, behind, joined, least_hand, node_back, Evaluates, IsValue, IsDatum, IsNumber, word}
+use Rattle.lowerstate.specs.Conversion.{IsConversion, conversion_code, not_code}
+use Rattle.lowerstate.specs.Codes.{constant_code, unary_code, pair_code, comparison_code, copy_code, assign_code}
 
 -- an event is shown and the operation behind is next
 abbrev pub shown_to : Event → machine.State → machine.State
 shown_to e s = record s { events = s.events ++ e ∷ []; frame = record s.frame { place = s.frame.place + 1 } }
+
+-- the place of a local, by its number
+abbrev pub local_place : ℕ → Run Target
+local_place k = with_state (λ s. give (whole (s.locals + k)))
 
 module _ (r : Fixed) (c : Call) where
   -- ---- numbers
@@ -66,6 +75,33 @@ module _ (r : Fixed) (c : Call) where
   abbrev pub LeftmostLaw : Type 0
   LeftmostLaw = (f : Free) (a b : Code) (s t u : Sign) (run second : Run ℕ) (nodes others spare back left : ℕ)
       → Joining f a b s t u run second nodes others spare back left (pair_code two.LeftmostBit f a b) leftmost_bit
+
+  -- ---- locals that are registers
+
+  -- what a local holds
+  abbrev pub LocalLaw : Type 0
+  LocalLaw = (span : Span) (a : Access) (f : Free) (k q : ℕ) (t : Meant) → slice_get c.own k ≡ Some (InRegister q t)
+      → Evaluates r c f (copy_code (meant_width t) q f) IsValue t (then_with (local_place k) (λ p. then_with (load span a.scalar p) valued))
+      0 57
+
+  -- a value to a local: the step of its place, the value, and a copy
+  abbrev pub AssignLaw : Type 0
+  AssignLaw = (span : Span) (access : Access) (f : Free) (k q : ℕ) (t : Meant) (a : Code) (run : Run Datum) (nodes back left : ℕ)
+      → slice_get c.own k ≡ Some (InRegister q t) → Evaluates r c f a IsDatum t run nodes back → 7 + left ≤ 512 + back
+      → Evaluates r c f (assign_code q a) IsValue t (both (node (local_place k)) run (assign span access)) (nodes + 1) left
+
+  -- ---- conversions
+
+  abbrev pub ConversionLaw : Type 0
+  ConversionLaw = (conversion : Conversion) (f : Free) (a : Code) (t u : Meant) (run : Run Valued) (nodes left : ℕ)
+      → IsConversion conversion t u → Evaluates r c f a IsValue t run nodes (left + 10)
+      → Evaluates r c f (conversion_code conversion f a) IsDatum u (operand conversion run) nodes left
+
+  -- `!`
+  abbrev pub NotLaw : Type 0
+  NotLaw = (f : Free) (a : Code) (t : Meant) (sign : Sign) (run : Run Valued) (nodes left : ℕ)
+      → Evaluates r c f a IsValue t run nodes (left + 16)
+      → Evaluates r c f (not_code f a) IsValue (word sign) (then_with (truth run) (λ x. number_value (truth_number (not x)))) nodes left
 
   -- ---- nodes, one after another
 

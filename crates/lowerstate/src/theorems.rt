@@ -4,7 +4,7 @@ ghost use Rattle.lowerstate.specs.Counted.{Counted};
 ghost use Rattle.lowerstate.specs.Related.{Fixed, Call, IsCall, Point, Related, stepped};
 ghost use Rattle.lowerstate.specs.Stands.{IsEven, Does};
 ghost use Rattle.lowerstate.specs.PieceLaws.{ConstantLaw, MinusLaw, ComplementLaw, BinaryLaw, ComparisonLaw, LeftmostLaw};
-ghost use Rattle.lowerstate.specs.PieceLaws.{NodeLaw, SequenceLaw, EventLaw};
+ghost use Rattle.lowerstate.specs.PieceLaws.{NodeLaw, SequenceLaw, EventLaw, LocalLaw, AssignLaw, ConversionLaw, NotLaw};
 
 /// What the meaning's acts do to related states.
 #[tactic(auto, using(crate::proofs::Laws::act_rules))]
@@ -41,4 +41,16 @@ pub fn operators()
 pub fn sequences()
     ensures node { (r : Fixed) (c : Call) → NodeLaw r c }
     ensures sequence { (r : Fixed) (c : Call) → SequenceLaw r c }
+{}
+
+/// Locals that are registers: what they hold, and an assignment.
+pub fn locals()
+    ensures local { (r : Fixed) (c : Call) → IsCall r c → LocalLaw r c }
+    ensures assignment { (r : Fixed) (c : Call) → IsCall r c → AssignLaw r c }
+{}
+
+/// Conversions of values, and `!`.
+pub fn conversions()
+    ensures conversion { (r : Fixed) (c : Call) → IsCall r c → ConversionLaw r c }
+    ensures negation { (r : Fixed) (c : Call) → IsCall r c → NotLaw r c }
 {}
