@@ -38,7 +38,7 @@ wrap-below B1 n = mod_below n (2 ^ 8) (lit< tt)
 wrap-below B2 n = mod_below n (2 ^ 16) (lit< tt)
 wrap-below B4 n = mod_below n (2 ^ 32) (lit< tt)
 
-signed-below : (z : ℤ) → wrap_signed B4 z < 2 ^ 32
+pub signed-below : (z : ℤ) → wrap_signed B4 z < 2 ^ 32
 signed-below (pos a) = mod_below a (2 ^ 32) (lit< tt)
 signed-below (negsuc a) = omega arith
 

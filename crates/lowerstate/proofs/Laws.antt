@@ -131,11 +131,11 @@ if-same : {A : Type 0} (b : Bool) (x y : A) → b ≡ true → (if b then x else
 if-same true x y is = refl
 if-same false x y is = absurd cc
 
-if-other : {A : Type 0} (b : Bool) (x y : A) → b ≡ false → (if b then x else y) ≡ y
+pub if-other : {A : Type 0} (b : Bool) (x y : A) → b ≡ false → (if b then x else y) ≡ y
 if-other false x y is = refl
 if-other true x y is = absurd cc
 
-with-same : (registers : ℕ → Option ℕ) (q v : ℕ) → with_register registers q v q ≡ Some v
+pub with-same : (registers : ℕ → Option ℕ) (q v : ℕ) → with_register registers q v q ≡ Some v
 with-same registers q v = if-same (q == q) (Some v) (registers q) (eq-eqb q q refl)
 
 with-other : (registers : ℕ → Option ℕ) (q v p : ℕ) → p < q → with_register registers q v p ≡ registers p

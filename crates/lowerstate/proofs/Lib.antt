@@ -6,3 +6,6 @@ pub mod Numbers
 pub mod Agree
 pub mod Sequence
 pub mod Shown
+pub mod Room
+pub mod Variables
+pub mod Converted

@@ -27,7 +27,8 @@ use Rattle.lowerstate.specs.Held.{Meant, OfInteger, Home, Held}
 use Rattle.lowerstate.specs.Related.{Fixed, Call, IsCall}
 use Rattle.lowerstate.specs.Stands.{Ends}
 use Rattle.lowerstate.specs.Piece.{Code, Free, behind, joined, next_register, followed, least_hand, onwards, Given, Evaluates}
-use Rattle.lowerstate.specs.Piece.{IsValue, IsDatum, IsNumber, word, register, constant_code}
+use Rattle.lowerstate.specs.Piece.{IsValue, IsDatum, IsNumber, word, register}
+use Rattle.lowerstate.specs.Codes.{constant_code, unary_code, pair_code, swapped_code, comparison_code}
 use Rattle.lowerstate.specs.Operators.{operation, comparing, is_swapped}
 use Rattle.lowerstate.proofs.Agree.{wrap-small, unary-agrees-minus, unary-agrees-complement, binary-agrees, binary-below, binary-charge}
 use Rattle.lowerstate.proofs.Agree.{comparison-agrees}
@@ -40,7 +41,7 @@ use Rattle.lowerstate.proofs.Pairs.{both-op}
 -- ---- what is read
 
 module _ {A : Type 0} where
-  got : (s : machine.State) (q : VReg) (v : ℕ) (f : ℕ → machine.Does A) → s.frame.registers q.0 ≡ Some v
+  pub got : (s : machine.State) (q : VReg) (v : ℕ) (f : ℕ → machine.Does A) → s.frame.registers q.0 ≡ Some v
       → machine.in_turn (machine.get q) f s ≡ f v s
   got s q v f is = ap (λ o. and_then (machine.known o s) f) is
 
@@ -118,13 +119,13 @@ module _ (r : Fixed) (c : Call) (call : IsCall r c) where
 
   pub minus-of : (f : Free) (code : Code) (s t : Sign) (run : Run ℕ) (nodes left : ℕ)
       → Evaluates r c f code IsNumber (word s) run nodes (left + 9)
-      → Evaluates r c f (followed f code (op.Unary one.Negate (register (next_register f code)) (register code.result)) B4)
+      → Evaluates r c f (unary_code one.Negate f code)
       IsValue (word t) (then_with run (λ n. number_value (unary Minus n))) nodes left
   minus-of f code s t run nodes left first =
       next-op r c call {Is = IsNumber} {Is' = IsValue} f code (word s) (word t) run nodes (left + 9) left
       (λ n. number_value (unary Minus n))
       (op.Unary one.Negate (register (next_register f code)) (register code.result)) first (omega arith)
-      (λ homes m n d v is held reg width.
+      (λ homes m n d v within is held reg width.
       let at = number-held (record { width = B4; sign = s }) homes n d v is held in
       let agrees = unary-agrees-minus n in (
         Some (Number (unary Minus n)),
@@ -138,13 +139,13 @@ module _ (r : Fixed) (c : Call) (call : IsCall r c) where
 
   pub complement-of : (f : Free) (code : Code) (s t : Sign) (run : Run ℕ) (nodes left : ℕ)
       → Evaluates r c f code IsNumber (word s) run nodes (left + 9)
-      → Evaluates r c f (followed f code (op.Unary one.Complement (register (next_register f code)) (register code.result)) B4)
+      → Evaluates r c f (unary_code one.Complement f code)
       IsValue (word t) (then_with run (λ n. number_value (unary Complement n))) nodes left
   complement-of f code s t run nodes left first =
       next-op r c call {Is = IsNumber} {Is' = IsValue} f code (word s) (word t) run nodes (left + 9) left
       (λ n. number_value (unary Complement n))
       (op.Unary one.Complement (register (next_register f code)) (register code.result)) first (omega arith)
-      (λ homes m n d v is held reg width.
+      (λ homes m n d v within is held reg width.
       let at = number-held (record { width = B4; sign = s }) homes n d v is held in
       let agrees = unary-agrees-complement n in (
         Some (Number (unary Complement n)),
@@ -158,21 +159,12 @@ module _ (r : Fixed) (c : Call) (call : IsCall r c) where
 
   -- an operation on two numbers, where it computes what is meant
   module _ (f : Free) (a b : Code) (s t u : Sign) (run : Run ℕ) (second : Run ℕ) (nodes others spare back left : ℕ) where
-    abbrev pub pair_code : BinaryOp → Code
-    pair_code o = followed f (joined a b)
-        (op.Binary o (register (next_register f (joined a b))) (register a.result) (operand.Register (register b.result))) B4
-
-    -- the same with the sides changed
-    abbrev pub swapped_code : BinaryOp → Code
-    swapped_code o = followed f (joined a b)
-        (op.Binary o (register (next_register f (joined a b))) (register b.result) (operand.Register (register a.result))) B4
-
     pair-of : (o : BinaryOp) (meant : ℕ → ℕ → ℕ)
         → ((x y : ℕ) → x < 2 ^ 32 → y < 2 ^ 32 → (binary_value o x y ≡ meant x y) × (meant x y < 2 ^ 32))
         → Evaluates r c f a IsNumber (word s) run nodes (least_hand + spare) → Evaluates r c (behind f a) b IsNumber (word t) second others
         back
         → 442 + left ≤ spare + back
-        → Evaluates r c f (pair_code o) IsValue (word u) (both run second (λ x y. number_value (meant x y))) (nodes + others) left
+        → Evaluates r c f (pair_code o f a b) IsValue (word u) (both run second (λ x y. number_value (meant x y))) (nodes + others) left
     pair-of o meant agrees first then' paid =
         let k : OpKind =
         op.Binary o (register (next_register f (joined a b))) (register a.result) (operand.Register (register b.result)) in
@@ -199,7 +191,7 @@ module _ (r : Fixed) (c : Call) (call : IsCall r c) where
         → Evaluates r c f a IsNumber (word s) run nodes (least_hand + spare) → Evaluates r c (behind f a) b IsNumber (word t) second others
         back
         → 442 + left ≤ spare + back
-        → Evaluates r c f (swapped_code o) IsValue (word u) (both run second (λ x y. number_value (meant x y))) (nodes + others) left
+        → Evaluates r c f (swapped_code o f a b) IsValue (word u) (both run second (λ x y. number_value (meant x y))) (nodes + others) left
     swapped-of o meant agrees first then' paid =
         let k : OpKind =
         op.Binary o (register (next_register f (joined a b))) (register b.result) (operand.Register (register a.result)) in
@@ -226,7 +218,7 @@ module _ (r : Fixed) (c : Call) (call : IsCall r c) where
         → Evaluates r c f a IsNumber (word s) run nodes (least_hand + spare) → Evaluates r c (behind f a) b IsNumber (word t) second others
         back
         → 442 + left ≤ spare + back
-        → Evaluates r c f (pair_code (operation o sign)) IsValue (word u) (both run second (λ x y. number_value (binary o sign x y)))
+        → Evaluates r c f (pair_code (operation o sign) f a b) IsValue (word u) (both run second (λ x y. number_value (binary o sign x y)))
         (nodes + others) left
     binary-of o sign = pair-of (operation o sign) (binary o sign)
         (λ x y less more. (binary-agrees o sign x y, binary-below o sign x y less more))
@@ -234,25 +226,22 @@ module _ (r : Fixed) (c : Call) (call : IsCall r c) where
     -- `__lmbd`
     pub leftmost-of : Evaluates r c f a IsNumber (word s) run nodes (least_hand + spare)
         → Evaluates r c (behind f a) b IsNumber (word t) second others back → 442 + left ≤ spare + back
-        → Evaluates r c f (pair_code two.LeftmostBit) IsValue (word u) (both run second (λ x y. number_value (leftmost_bit x y)))
+        → Evaluates r c f (pair_code two.LeftmostBit f a b) IsValue (word u) (both run second (λ x y. number_value (leftmost_bit x y)))
         (nodes + others) left
     leftmost-of = pair-of two.LeftmostBit leftmost_bit (λ x y less more. (leftmost-agrees x y, leftmost-below x y))
 
     -- a comparison
-    abbrev pub comparison_code : ComparisonOperator → Sign → Code
-    comparison_code o sign = if is_swapped o then swapped_code (comparing o sign) else pair_code (comparing o sign)
-
     pub comparison-of : (o : ComparisonOperator) (sign : Sign)
         → Evaluates r c f a IsNumber (word s) run nodes (least_hand + spare) → Evaluates r c (behind f a) b IsNumber (word t) second others
         back
         → 442 + left ≤ spare + back
-        → Evaluates r c f (comparison_code o sign) IsValue (word u) (both run second (λ x y. number_value (comparison o sign x y)))
+        → Evaluates r c f (comparison_code o sign f a b) IsValue (word u) (both run second (λ x y. number_value (comparison o sign x y)))
         (nodes + others) left
     comparison-of o sign first then' paid = chosen (is_swapped o) (comparison-agrees o sign)
       where
         chosen : (b' : Bool) → ((x y : ℕ) → x < 2 ^ 32 → y < 2 ^ 32
             → (if b' then binary_value (comparing o sign) y x else binary_value (comparing o sign) x y) ≡ comparison o sign x y)
-            → Evaluates r c f (if b' then swapped_code (comparing o sign) else pair_code (comparing o sign)) IsValue (word u)
+            → Evaluates r c f (if b' then swapped_code (comparing o sign) f a b else pair_code (comparing o sign) f a b) IsValue (word u)
             (both run second (λ x y. number_value (comparison o sign x y))) (nodes + others) left
         chosen true agrees = swapped-of (comparing o sign) (comparison o sign)
             (λ x y less more. (agrees x y less more, truth-below _)) first then' paid

@@ -61,7 +61,7 @@ module _ (r : Fixed) (c : Call) (call : IsCall r c) {A B C : Type 0} (Is : A →
   last : Evaluates r c f a Is t run nodes (least_hand + spare)
       → charge k + left ≤ spare + back → Joins
       → (x : Point) (hand : ℕ) (i : A) (j : B) (s : State) (m : Counted) (d e : Datum) → Is i d → Js j e
-      → IsIn c f all x.place → IsReady r f (nodes + others) hand x
+      → IsIn c f all x.place → IsReady r c f (nodes + others) hand x
       → Related r c (onwards (middle x hand d) b others (hand + spare) back u e) s m
       → Does r (Given r c all Ks w (nodes + others) left x hand) (next i j r.budget s) m
   last first paid joins x hand i j s m d e is js stands ready related =
@@ -95,9 +95,9 @@ module _ (r : Fixed) (c : Call) (call : IsCall r c) {A B C : Type 0} (Is : A →
             (let long = one-longer code.ops k in omega (arith, long, more)) (omega arith) (omega arith) done.2 done.2.kept,
       )))
 
-  b-ready : Evaluates r c f a Is t run nodes (least_hand + spare) → (x : Point) (hand : ℕ) (d : Datum)
-      → IsReady r f (nodes + others) hand x → IsReady r (behind f a) others (hand + spare) (middle x hand d)
-  b-ready first x hand d ready = record {
+  b-ready : Evaluates r c f a Is t run nodes (least_hand + spare) → c.variables ≤ f.register → (x : Point) (hand : ℕ) (d : Datum)
+      → IsReady r c f (nodes + others) hand x → IsReady r c (behind f a) others (hand + spare) (middle x hand d)
+  b-ready first free x hand d ready = record {
     in_hand = omega arith;
     owed = let owed = ready.owed in omega (arith, owed);
     kept = (
@@ -105,6 +105,7 @@ module _ (r : Fixed) (c : Call) (call : IsCall r c) {A B C : Type 0} (Is : A →
           let within = slice_get_within a.widths first.typed.0 (meant_width t) first.typed.2 in omega (arith, result, within)),
       below-more x.kept f.register (f.register + length a.widths) (omega arith) ready.kept,
     );
+    apart = (let result = first.typed.1 in omega (arith, result, free), ready.apart);
   }
 
   pub both-op : Evaluates r c f a Is t run nodes (least_hand + spare) → Evaluates r c (behind f a) b Js u second others back
@@ -117,10 +118,10 @@ module _ (r : Fixed) (c : Call) (call : IsCall r c) {A B C : Type 0} (Is : A →
         (Given r c a Is t nodes (least_hand + spare) x hand) (Given r c all Ks w (nodes + others) left x hand)
         (run r.budget s) (λ i. then_with second (next i) r.budget) m
         (first.does x hand s m (a-place x.place stands)
-        (record { in_hand = ready.in_hand; owed = let owed = ready.owed in omega (arith, owed); kept = ready.kept }) related)
+        (record { in_hand = ready.in_hand; owed = let owed = ready.owed in omega (arith, owed); kept = ready.kept; apart = ready.apart }) related)
         (λ i s m at. bind (counted r.program r.addresses) (Ends r)
         (Given r c b Js u others back (middle x hand at.0) (hand + spare)) (Given r c all Ks w (nodes + others) left x hand)
         (second r.budget s) (λ j. next i j r.budget) m
-        (then'.does (middle x hand at.0) (hand + spare) s m (b-place x.place stands) (b-ready first x hand at.0 ready) at.2)
+        (then'.does (middle x hand at.0) (hand + spare) s m (b-place x.place stands) (b-ready first stands.free x hand at.0 ready) at.2)
         (λ j s m on. last first paid joins x hand i j s m at.0 on.0 at.1 on.1 stands ready on.2));
   }

@@ -3,7 +3,7 @@ use Rattle.std.proofs.Common.{◌≡◌, ℕ, ◌+◌, ◌<◌, ◌≤◌, List,
 use Rattle.std.proofs.Common.{Some, slice_get}
 use Rattle.std.specs.List.{AllByRecursion}
 use Rattle.behaviour.specs.Ran.{Done}
-use Rattle.behaviour.proofs.SimulatesLemmas.{simulates-here, simulates-from, bind}
+use Rattle.behaviour.proofs.SimulatesLemmas.{simulates-here, simulates-from, simulates-weaker, bind}
 use Rattle.prunum.specs.Number.{wrap}
 use Rattle.midcode.specs.declared.register.VReg.{VReg}
 use Rattle.midcode.specs.declared.op.OpKind.{OpKind}
@@ -16,13 +16,10 @@ use Rattle.lowerstate.specs.Counted.{Counted, counted}
 use Rattle.lowerstate.specs.Held.{Meant, meant_width, Home, Held}
 use Rattle.lowerstate.specs.Related.{Fixed, Call, IsCall, Kept, Point, homes_with, IsKept, Related, stepped}
 use Rattle.lowerstate.specs.Stands.{Ends, Does}
-use Rattle.lowerstate.specs.Piece.{Code, Free, next_register, followed, IsIn, IsReady, onwards, Given, Evaluates, register}
+use Rattle.lowerstate.specs.Piece.{Code, Free, next_register, followed, node_back, IsIn, IsReady, onwards, Given, Evaluates, register}
 use Rattle.lowerstate.proofs.Laws.{tick-does, written, width-at, wrote}
+use Rattle.lowerstate.proofs.Room.{AreWithin, stored-within}
 use Rattle.lowerstate.proofs.Places.{stands-at, stands-first, stands-left, stands-right, one-longer, get-last}
-
--- what is in hand behind every node
-abbrev pub node_back : ℕ
-node_back = 320
 
 pub below-more : (ks : List Kept) (p q : ℕ) → p ≤ q → AllByRecursion (λ k. k.register < p) ks → AllByRecursion (λ k. k.register < q) ks
 below-more [] p q more below = tt
@@ -93,7 +90,7 @@ module _ (r : Fixed) (c : Call) where
         (Given r c code Is t nodes back x hand) (Given r c code Is t (nodes + 1) node_back x hand)
         (run r.budget s) (λ a. then_do tick (give a) r.budget) m
         (first.does x hand s m stands
-        (record { in_hand = ready.in_hand; owed = let owed = ready.owed in omega (arith, owed); kept = ready.kept }) related)
+        (record { in_hand = ready.in_hand; owed = let owed = ready.owed in omega (arith, owed); kept = ready.kept; apart = ready.apart }) related)
         (λ a s m at. after x hand a s m at.0 at.1 (let owed = ready.owed in omega (arith, owed)) at.2);
   }
     where
@@ -114,11 +111,28 @@ module _ (r : Fixed) (c : Call) where
                 s m refl (omega arith) (omega arith) behind behind.kept,
           ))
 
+  -- less may be said to be left
+  pub less-left : {A : Type 0} {Is : A → Datum → Type 0} (f : Free) (code : Code) (t : Meant) (run : Run A) (nodes back left : ℕ)
+      → Evaluates r c f code Is t run nodes back → left ≤ back → Evaluates r c f code Is t run nodes left
+  less-left {Is = Is} f code t run nodes back left first few = record {
+    typed = first.typed;
+    does = λ x hand s m stands ready related.
+        simulates-weaker (counted r.program r.addresses) (Ends r) (Given r c code Is t nodes back x hand)
+        (Given r c code Is t nodes left x hand) (Ends r)
+        (λ a s m on. (
+          on.0,
+          on.1,
+          adjust (onwards x code nodes hand back t on.0) (onwards x code nodes hand left t on.0) s m refl (omega (arith, few))
+              (omega arith) on.2 on.2.kept,
+        ))
+        (λ cause s m ends. ends) (run r.budget s) m (first.does x hand s m stands ready related);
+  }
+
 module _ (r : Fixed) (c : Call) (call : IsCall r c) where
   -- an operation on what a run gives, with its result in the next register
   pub next-op : {A B : Type 0} {Is : A → Datum → Type 0} {Is' : B → Datum → Type 0} (f : Free) (code : Code) (t u : Meant) (run : Run A)
       (nodes back left : ℕ) (next : A → Run B) (k : OpKind) → Evaluates r c f code Is t run nodes back → charge k + left ≤ back
-      → ((homes : List Home) (s : machine.State) (a : A) (d : Datum) (v : ℕ) → Is a d → Held r.layouts homes t d v
+      → ((homes : List Home) (s : machine.State) (a : A) (d : Datum) (v : ℕ) → AreWithin homes → Is a d → Held r.layouts homes t d v
       → s.frame.registers code.result ≡ Some v → width_of r.program s (register code.result) ≡ meant_width t
       → (b : B) × (e : Datum) × (n : ℕ) × (next a ≡ give b) × Is' b e
       × (effect r.program r.addresses k s ≡ Done tt (written r.program (register (next_register f code)) n s))
@@ -139,7 +153,7 @@ module _ (r : Fixed) (c : Call) (call : IsCall r c) where
   }
     where
       after : (x : Point) (hand : ℕ) (a : A) (s : State) (m : Counted) (d : Datum) → Is a d
-          → IsIn c f (followed f code k (meant_width u)) x.place → IsReady r f nodes hand x
+          → IsIn c f (followed f code k (meant_width u)) x.place → IsReady r c f nodes hand x
           → Related r c (onwards x code nodes hand back t d) s m
           → Does r (Given r c (followed f code k (meant_width u)) Is' u nodes left x hand) (next a r.budget s) m
       after x hand a s m d is stands ready related =
@@ -149,7 +163,7 @@ module _ (r : Fixed) (c : Call) (call : IsCall r c) where
           (stands-left c.widths code.widths (meant_width u ∷ []) f.register stands.widths) first.typed.2 in
           let width-of-result : slice_get c.widths code.result ≡ Some (meant_width t) =
           ap (λ n. slice_get c.widths n) first.typed.1 ∙ result-width in
-          let new = gives (homes_with c related.later) (charged k m.state) a d related.kept.0.0 is related.kept.0.2 related.kept.0.1
+          let new = gives (homes_with c related.later) (charged k m.state) a d related.kept.0.0 (stored-within r c y s m related) is related.kept.0.2 related.kept.0.1
           (width-at r c call y s m k (register code.result) (meant_width t) related width-of-result) in
           let done = wrote r c call y s m k q (meant_width u) u new.1 new.2 (hand + left) x.kept related
           (stands-first c.ops [] (x.place + length code.ops) k (stands-right c.ops code.ops (k ∷ []) x.place stands.ops))

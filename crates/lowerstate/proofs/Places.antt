@@ -1,6 +1,6 @@
 -- Lists that stand in others.
-use Rattle.std.proofs.Common.{◌≡◌, ℕ, zero, suc, ◌+◌, List, [], ◌∷◌, ◌++◌, length, refl, sym, ap, ◌∙◌, arith}
-use Rattle.std.proofs.Common.{Some, slice_get, append_assoc, length-append}
+use Rattle.std.proofs.Common.{◌≡◌, ℕ, zero, suc, ◌+◌, ◌<◌, List, [], ◌∷◌, ◌++◌, length, refl, sym, ap, ◌∙◌, arith}
+use Rattle.std.proofs.Common.{Some, slice_get, slice_set, append_assoc, length-append}
 use Rattle.lowerstate.specs.Piece.{StandsAt}
 
 module _ {A : Type 0} where
@@ -10,7 +10,7 @@ module _ {A : Type 0} where
       let e : length (x ∷ front) + i ≡ suc (length front + i) = omega arith in
       ap (λ n. slice_get (x ∷ (front ++ xs)) n) e ∙ get-further front xs i
 
-  get-before : (part back : List A) (i : ℕ) (a : A) → slice_get part i ≡ Some a → slice_get (part ++ back) i ≡ Some a
+  pub get-before : (part back : List A) (i : ℕ) (a : A) → slice_get part i ≡ Some a → slice_get (part ++ back) i ≡ Some a
   get-before [] back i a is = absurd cc
   get-before (x ∷ part) back zero a is = is
   get-before (x ∷ part) back (suc i) a is = get-before part back i a is
@@ -53,3 +53,21 @@ module _ {A : Type 0} where
   pub get-last : (xs : List A) (a : A) → slice_get (xs ++ a ∷ []) (length xs) ≡ Some a
   get-last [] a = refl
   get-last (x ∷ xs) a = get-last xs a
+
+  -- a list of which one element is another
+  pub get-set : (xs : List A) (i : ℕ) (a : A) → i < length xs → slice_get (slice_set xs i a) i ≡ Some a
+  get-set [] i a within = absurd (omega (arith, within))
+  get-set (x ∷ xs) zero a within = refl
+  get-set (x ∷ xs) (suc i) a within = get-set xs i a (omega (arith, within))
+
+  pub get-unset : (xs : List A) (i j : ℕ) (a : A) → (i ≡ j → ⊥) → slice_get (slice_set xs i a) j ≡ slice_get xs j
+  get-unset [] i j a other = refl
+  get-unset (x ∷ xs) zero zero a other = absurd (other refl)
+  get-unset (x ∷ xs) zero (suc j) a other = refl
+  get-unset (x ∷ xs) (suc i) zero a other = refl
+  get-unset (x ∷ xs) (suc i) (suc j) a other = get-unset xs i j a (λ same. other (ap suc same))
+
+  pub set-long : (xs : List A) (i : ℕ) (a : A) → length (slice_set xs i a) ≡ length xs
+  set-long [] i a = refl
+  set-long (x ∷ xs) zero a = refl
+  set-long (x ∷ xs) (suc i) a = ap suc (set-long xs i a)

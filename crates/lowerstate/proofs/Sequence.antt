@@ -31,16 +31,17 @@ module _ (r : Fixed) (c : Call) {A B : Type 0} (Is : A → Datum → Type 0) (Js
     free = let free = stands.free in omega (arith, free);
   }
 
-  b-ready : (x : Point) (hand : ℕ) → IsReady r f (nodes + others) hand x
-      → IsReady r (behind f a) others (hand + spare) (between x hand)
+  b-ready : (x : Point) (hand : ℕ) → IsReady r c f (nodes + others) hand x
+      → IsReady r c (behind f a) others (hand + spare) (between x hand)
   b-ready x hand ready = record {
     in_hand = omega arith;
     owed = let owed = ready.owed in omega (arith, owed);
     kept = below-more x.kept f.register (f.register + length a.widths) (omega arith) ready.kept;
+    apart = ready.apart;
   }
 
   second-does : Evaluates r c (behind f a) b Js u second others back
-      → (x : Point) (hand : ℕ) (i : A) (s : State) (m : Counted) → IsIn c f (joined a b) x.place → IsReady r f (nodes + others) hand x
+      → (x : Point) (hand : ℕ) (i : A) (s : State) (m : Counted) → IsIn c f (joined a b) x.place → IsReady r c f (nodes + others) hand x
       → Given r c a Is t nodes (least_hand + spare) x hand i s m
       → Does r (Given r c (joined a b) Js u (nodes + others) (spare + back) x hand) (second r.budget s) m
   second-does then' x hand i s m stands ready at =
@@ -73,7 +74,7 @@ module _ (r : Fixed) (c : Call) {A B : Type 0} (Is : A → Datum → Type 0) (Js
         bind (counted r.program r.addresses) (Ends r) (Given r c a Is t nodes (least_hand + spare) x hand)
         (Given r c (joined a b) Js u (nodes + others) (spare + back) x hand) (run r.budget s) (λ _. second r.budget) m
         (first.does x hand s m (a-place x.place stands)
-        (record { in_hand = ready.in_hand; owed = let owed = ready.owed in omega (arith, owed); kept = ready.kept }) related)
+        (record { in_hand = ready.in_hand; owed = let owed = ready.owed in omega (arith, owed); kept = ready.kept; apart = ready.apart }) related)
         (λ i s m at. second-does then' x hand i s m stands ready at);
   }
     where

@@ -12,11 +12,8 @@ use Rattle.cmean.specs.State.{State, showing, change, show}
 use Rattle.lowerstate.specs.Counted.{Counted, counted, least_at}
 use Rattle.lowerstate.specs.Related.{Fixed, Call, IsCall, Point, Related}
 use Rattle.lowerstate.specs.Stands.{Ends, Does}
+use Rattle.lowerstate.specs.PieceLaws.{shown_to}
 use Rattle.lowerstate.proofs.Laws.{in_budget-does, counted_to, op-at, op-reaches, late-more}
-
--- an event is shown and the operation behind is next
-abbrev pub shown_to : Event → machine.State → machine.State
-shown_to e s = record s { events = s.events ++ e ∷ []; frame = record s.frame { place = s.frame.place + 1 } }
 
 module _ (r : Fixed) (c : Call) (call : IsCall r c) where
   shown : (x : Point) (s : State) (m : Counted) (k : OpKind) (e : Event) (hand : ℕ) → Related r c x s m → charge k + hand ≤ x.hand

@@ -62,17 +62,21 @@ pub record IsIn (c : Call) (f : Free) (code : Code) (place : ℕ) : Type 0 where
 
 -- ---- its meaning
 
+-- what is in hand behind every node
+abbrev pub node_back : ℕ
+node_back = 320
+
 -- what is in hand before every expression, so that a node without parts can be paid for
 abbrev pub least_hand : ℕ
 least_hand = 64
 
 -- Where an evaluation can begin: cycles are in hand, the steps of these nodes are within those between two solid operations, and the
--- values on
--- the way are in registers that are given out.
-pub record IsReady (r : Fixed) (f : Free) (nodes hand : ℕ) (x : Point) : Type 0 where
+-- values on the way are in registers that are given out, which aren't those of locals.
+pub record IsReady (r : Fixed) (c : Call) (f : Free) (nodes hand : ℕ) (x : Point) : Type 0 where
   pub in_hand : x.hand ≡ least_hand + hand
   pub owed : x.owed + nodes ≤ r.most
   pub kept : AllByRecursion (λ k. k.register < f.register) x.kept
+  pub apart : AllByRecursion (λ k. c.variables ≤ k.register) x.kept
 
 -- behind the code, its value being kept
 abbrev pub onwards : Point → Code → ℕ → ℕ → ℕ → Meant → Datum → Point
@@ -88,12 +92,11 @@ abbrev pub Given : Fixed → Call → Code → {A : Type 0} → (A → Datum →
 Given r c code Is t nodes back x hand a s m = (d : Datum) × Is a d × Related r c (onwards x code nodes hand back t d) s m
 
 -- Code for a run that gives a value of a type. Its evaluation leaves so many cycles in hand, and is so many steps at the most. `Is` tells
--- which
--- datum what the run gives is.
+-- which datum what the run gives is.
 pub record Evaluates (r : Fixed) (c : Call) (f : Free) (code : Code) {A : Type 0} (Is : A → Datum → Type 0) (t : Meant) (run : Run A)
     (nodes back : ℕ) : Type 0 where
   pub typed : (i : ℕ) × (code.result ≡ f.register + i) × (slice_get code.widths i ≡ Some (meant_width t))
-  pub does : (x : Point) (hand : ℕ) (s : State) (m : Counted) → IsIn c f code x.place → IsReady r f nodes hand x → Related r c x s m
+  pub does : (x : Point) (hand : ℕ) (s : State) (m : Counted) → IsIn c f code x.place → IsReady r c f nodes hand x → Related r c x s m
       → Does r (Given r c code Is t nodes back x hand) (run r.budget s) m
 
 -- ---- which datum is given
@@ -115,6 +118,3 @@ word sign = OfInteger (record { width = B4; sign = sign })
 
 abbrev pub register : ℕ → VReg
 register n = record { 0 = n }
-
-abbrev pub constant_code : Free → ℕ → Code
-constant_code f n = record { ops = op.Constant (register f.register) n ∷ []; widths = B4 ∷ []; labels = 0; result = f.register }
