@@ -96,7 +96,8 @@ module _ (r : Fixed) (c : Call) (call : IsCall r c) where
         ))
 
     to-address : (from : Integer) → Evaluates r c f a IsDatum (OfInteger from) run nodes (left + 10)
-        → Evaluates r c f (conversion_code (conversion.ToAddress from) f a) IsDatum ToVolatile (converts (conversion.ToAddress from)) nodes left
+        → Evaluates r c f (conversion_code (conversion.ToAddress from) f a) IsDatum ToVolatile (converts (conversion.ToAddress from)) nodes
+        left
     to-address from first =
         next-op r c call {Is = IsDatum} {Is' = IsDatum} f a (OfInteger from) ToVolatile run nodes (left + 10) left
         (λ d. sure (convert (conversion.ToAddress from) d))
@@ -178,7 +179,8 @@ module _ (r : Fixed) (c : Call) (call : IsCall r c) where
         → Evaluates r c f (conversion_code k f a) IsDatum u (converts k) nodes left
     convert-of conversion.Same t u is first = alike t u is first
     convert-of (conversion.Integer from to) t u is first =
-        subst (λ u. Evaluates r c f (conversion_code (conversion.Integer from to) f a) IsDatum u (converts (conversion.Integer from to)) nodes
+        subst (λ u. Evaluates r c f (conversion_code (conversion.Integer from to) f a) IsDatum u (converts (conversion.Integer from to))
+        nodes
         left) (sym is.2)
         (to-integer from to is.1 (subst (λ t. Evaluates r c f a IsDatum t run nodes (left + 10)) is.0 first))
     convert-of (conversion.ToAddress from) t u is first =

@@ -118,7 +118,8 @@ module _ (r : Fixed) (c : Call) (call : IsCall r c) {A B C : Type 0} (Is : A →
         (Given r c a Is t nodes (least_hand + spare) x hand) (Given r c all Ks w (nodes + others) left x hand)
         (run r.budget s) (λ i. then_with second (next i) r.budget) m
         (first.does x hand s m (a-place x.place stands)
-        (record { in_hand = ready.in_hand; owed = let owed = ready.owed in omega (arith, owed); kept = ready.kept; apart = ready.apart }) related)
+        (record { in_hand = ready.in_hand; owed = let owed = ready.owed in omega (arith, owed); kept = ready.kept; apart = ready.apart })
+        related)
         (λ i s m at. bind (counted r.program r.addresses) (Ends r)
         (Given r c b Js u others back (middle x hand at.0) (hand + spare)) (Given r c all Ks w (nodes + others) left x hand)
         (second r.budget s) (λ j. next i j r.budget) m

@@ -90,7 +90,8 @@ module _ (r : Fixed) (c : Call) where
         (Given r c code Is t nodes back x hand) (Given r c code Is t (nodes + 1) node_back x hand)
         (run r.budget s) (λ a. then_do tick (give a) r.budget) m
         (first.does x hand s m stands
-        (record { in_hand = ready.in_hand; owed = let owed = ready.owed in omega (arith, owed); kept = ready.kept; apart = ready.apart }) related)
+        (record { in_hand = ready.in_hand; owed = let owed = ready.owed in omega (arith, owed); kept = ready.kept; apart = ready.apart })
+        related)
         (λ a s m at. after x hand a s m at.0 at.1 (let owed = ready.owed in omega (arith, owed)) at.2);
   }
     where
@@ -163,7 +164,8 @@ module _ (r : Fixed) (c : Call) (call : IsCall r c) where
           (stands-left c.widths code.widths (meant_width u ∷ []) f.register stands.widths) first.typed.2 in
           let width-of-result : slice_get c.widths code.result ≡ Some (meant_width t) =
           ap (λ n. slice_get c.widths n) first.typed.1 ∙ result-width in
-          let new = gives (homes_with c related.later) (charged k m.state) a d related.kept.0.0 (stored-within r c y s m related) is related.kept.0.2 related.kept.0.1
+          let new = gives (homes_with c related.later) (charged k m.state) a d related.kept.0.0 (stored-within r c y s m related) is
+          related.kept.0.2 related.kept.0.1
           (width-at r c call y s m k (register code.result) (meant_width t) related width-of-result) in
           let done = wrote r c call y s m k q (meant_width u) u new.1 new.2 (hand + left) x.kept related
           (stands-first c.ops [] (x.place + length code.ops) k (stands-right c.ops code.ops (k ∷ []) x.place stands.ops))

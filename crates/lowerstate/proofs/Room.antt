@@ -1,5 +1,6 @@
 -- Values fit their registers, since objects lie within the memory.
-use Rattle.std.proofs.Common.{◌≡◌, ℕ, ◌+◌, ◌*◌, ◌^◌, ◌<◌, ◌≤◌, List, Some, slice_get, refl, sym, subst, ap, ◌∙◌, arith, Bool, true, false, not, ◌==◌}
+use Rattle.std.proofs.Common.{◌≡◌, ℕ, ◌+◌, ◌*◌, ◌^◌, ◌<◌, ◌≤◌, List, Some, slice_get, refl, sym, subst, ap, ◌∙◌, arith, Bool, true, false}
+use Rattle.std.proofs.Common.{not, ◌==◌}
 use Rattle.std.proofs.lemmas.Bool.{eq-eqb, ne_eqb}
 use Rattle.std.proofs.lemmas.Nat.{mul-le}
 use Rattle.prunum.specs.Number.{bit_count}

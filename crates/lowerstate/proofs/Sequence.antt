@@ -74,7 +74,8 @@ module _ (r : Fixed) (c : Call) {A B : Type 0} (Is : A → Datum → Type 0) (Js
         bind (counted r.program r.addresses) (Ends r) (Given r c a Is t nodes (least_hand + spare) x hand)
         (Given r c (joined a b) Js u (nodes + others) (spare + back) x hand) (run r.budget s) (λ _. second r.budget) m
         (first.does x hand s m (a-place x.place stands)
-        (record { in_hand = ready.in_hand; owed = let owed = ready.owed in omega (arith, owed); kept = ready.kept; apart = ready.apart }) related)
+        (record { in_hand = ready.in_hand; owed = let owed = ready.owed in omega (arith, owed); kept = ready.kept; apart = ready.apart })
+        related)
         (λ i s m at. second-does then' x hand i s m stands ready at);
   }
     where

@@ -34,7 +34,8 @@ use Rattle.lowerstate.proofs.Laws.{tick-does, undefined-does, written, wrote, if
 use Rattle.lowerstate.proofs.Laws.{late-more}
 use Rattle.lowerstate.proofs.Numbers.{got}
 use Rattle.lowerstate.proofs.Agree.{wrap-small}
-use Rattle.lowerstate.proofs.Places.{stands-first, stands-left, stands-right, one-longer, get-further, get-before, get-set, get-unset, set-long}
+use Rattle.lowerstate.proofs.Places.{stands-first, stands-left, stands-right, one-longer, get-further, get-before, get-set, get-unset}
+use Rattle.lowerstate.proofs.Places.{set-long}
 use Rattle.lowerstate.proofs.Pieces.{adjust}
 use Rattle.lowerstate.proofs.Room.{held-below, stored-within}
 
@@ -182,8 +183,7 @@ module _ (r : Fixed) (c : Call) (call : IsCall r c) (k q : ℕ) (t : Meant) (hom
         | inr no' ↦
             let other : k ≡ i → ⊥ = eqb-false k i no' in
             let old = related.variables i p u e there
-            (ap (λ ls. slice_get ls zero) (sym (leaves-other s o (length c.outer + i) _ (λ same. other (omega (arith, same))))) ∙ leaf) in
-            (
+            (ap (λ ls. slice_get ls zero) (sym (leaves-other s o (length c.outer + i) _ (λ same. other (omega (arith, same))))) ∙ leaf) in (
               old.0,
               with-apart m.state.frame.registers q cut p
                   (λ same. other (call.apart k i q t u home (there ∙ ap (λ n. Some (InRegister n u)) same))) ∙ old.1,
@@ -288,7 +288,8 @@ module _ (r : Fixed) (c : Call) (call : IsCall r c) (k q : ℕ) (t : Meant) (hom
       few d = let owed = ready.owed in omega (arith, owed)
 
       store-case : (b : Bool) (d : Datum) (s : State) (m : Counted) → Related r c (y d) s m
-          → Does r E (and_then (and_then (given span (unless_ended b (tt {0})) r.budget s) (λ _ s. Done (tt {0}) (holding d s))) (λ _ s. Done (Some d) s)) m
+          → Does r E (and_then (and_then (given span (unless_ended b (tt {0})) r.budget s) (λ _ s. Done (tt {0}) (holding d s)))
+          (λ _ s. Done (Some d) s)) m
       store-case true d s m related = put-does d s m related
       store-case false d s m related =
           bind (counted r.program r.addresses) (Ends r) (λ _ _ _. ⊥) E _ _ m
