@@ -8,3 +8,6 @@ returns-in-Err-clause-no_run g c = λ none.
     (g.F.Files.faults c.args.files.now) (g.F.Files.faults c.run_words.new.files)
     (g.S.Sink.told c.args.out.now) (g.S.Sink.told c.run_words.new.out) (g.S.Sink.faults c.args.out.now)
     (g.S.Sink.faults c.run_words.new.out) c.in-Err.status none c.in-Err.ensures.err
+
+pub returns-in-Ok-clause-no_run : goal.returns-in-Ok-clause-no_run
+returns-in-Ok-clause-no_run g c = λ none. absurd (none c.in-Ok.ensures.ok.0 c.in-Ok.ensures.ok.1)

@@ -5,13 +5,22 @@ use Rattle.fileset.specs.Told.{Tells}
 use Rattle.prucc.specs.declared.request.Request.{Request}
 use Rattle.prucc.specs.Request.{Asked, Asks, texts, asked}
 use Rattle.prucc.specs.RunAnswer.{WriteFails, HoldsFile}
-use Rattle.prucc.proofs.TopRun.{build_fails, write_fails, finishes, put_fails}
+use Rattle.prucc.proofs.TopRun.{input_fails, build_fails, write_fails, finishes, put_fails}
 use Rattle.prucc.proofs.top.run_words.Goals as goal
 
 asks_it : (words : List (List ℕ)) (o : Option Request) (q : Request) → o ≡ Some q
     → MatchOption o ((r : Asked) → Asks words r → ⊥) (λ request. Asks words (asked request)) → Asks words (asked q)
 asks_it words o q is h = subst (λ (p : Option Request). MatchOption p ((r : Asked) → Asks words r → ⊥)
     (λ request. Asks words (asked request))) is h
+
+pub returns-in_err-inputs-clause-err : goal.returns-in_err-inputs-clause-err
+returns-in_err-inputs-clause-err g c =
+    let p = err_from_is_err_and c.from_residual-in_err-inputs.result c.from_residual-in_err-inputs.ensures.1 in
+    let asks = asks_it (texts c.args.words.now) c.in_ok-request.field-0 c.in-Some.request c.in-Some.is c.in_ok-request.ensures in
+    rw (p.1, p.2) (input_fails (texts c.args.words.now) (asked c.in-Some.request) (g.F.Files.told c.args.files.now)
+    (g.F.Files.told c.read_inputs.new.files) (g.F.Files.faults c.args.files.now) (g.F.Files.faults c.read_inputs.new.files)
+    (g.S.Sink.told c.args.out.now) (g.S.Sink.faults c.args.out.now) c.in_err-inputs.field-0.0 asks c.in_err-inputs.ensures.same
+    c.in_err-inputs.ensures.err)
 
 pub returns-in_err-output-clause-err : goal.returns-in_err-output-clause-err
 returns-in_err-output-clause-err g c =
