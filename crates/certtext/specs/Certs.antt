@@ -14,7 +14,7 @@ use Rattle.certtext.specs.declared.fault.CertsFault.TheVariants.{Line, Memory}
 use Rattle.certtext.specs.declared.read.CertFile.{CertFile}
 use Rattle.certtext.specs.declared.saying.Saying.{Saying}
 use Rattle.certtext.specs.declared.saying.Saying.TheVariants.{Core, Certified, Labelled, Refused, Unbalanced}
-use Rattle.certtext.specs.Texts.{edition_text, table_of, core_text, cert_text, label_text, refused_text, longest}
+use Rattle.certtext.specs.Texts.{edition_text, table_of, core_text, cert_text, label_text, refused_text, InBounds}
 use Rattle.certtext.specs.Order.{IsBefore}
 use Rattle.certtext.specs.Files.{IsFile}
 
@@ -96,7 +96,7 @@ certs_text table zero one =
     text_of (edition_text (Second table) ∷ (core_text 0 ∷ certs_lines zero ++ core_text 1 ∷ certs_lines one))
 
 abbrev pub LabelFits : Label → Type 0
-LabelFits l = (l.entry < 2 ^ 16) × (l.pc < 2 ^ 16) × (l.least ≤ l.most) × (l.most ≤ longest)
+LabelFits l = (l.entry < 2 ^ 16) × (l.pc < 2 ^ 16) × InBounds l.least l.most
 
 abbrev pub LabelsAscend : List Label → Type 0
 LabelsAscend [] = Unit {0}
@@ -106,8 +106,7 @@ LabelsAscend (a ∷ b ∷ labels) = IsBefore a b × LabelsAscend (b ∷ labels)
 pub record IsCert (table : Table) (cert : Cert) : Type 0 where
   pub same : cert.table ≡ table
   pub region : cert.region < 64
-  pub order : cert.least ≤ cert.most
-  pub bound : cert.most ≤ longest
+  pub bounds : InBounds cert.least cert.most
   pub labels : AllByRecursion LabelFits cert.labels
   pub ascend : LabelsAscend cert.labels
 
@@ -130,9 +129,9 @@ pub record AreCerts (table : Table) (lines : List CertLine) : Type 0 where
   pub ascend : RegionsAscend lines
 
 -- what is read of a printed file
-pub record IsPrinted (table : Table) (lines : List CertLine) (file : CertFile) : Type 0 where
-  pub table : file.table ≡ table
-  pub lines : file.lines.items ≡ lines
+pub record IsPrinted (by : Table) (certs : List CertLine) (file : CertFile) : Type 0 where
+  pub table : file.table ≡ by
+  pub lines : file.lines.items ≡ certs
   pub left_out : file.left_out ≡ 0
 
 abbrev pub lines_of_core : ℕ → List CertLine → List CertLine → List CertLine

@@ -68,10 +68,13 @@ saying_text edition (Unbalanced region pc first second) = unbalanced_text region
 abbrev pub longest : ℕ
 longest = 2000000
 
+abbrev pub InBounds : ℕ → ℕ → Type 0
+InBounds least most = (least ≤ most) × (most ≤ longest)
+
 -- the bounds that an edition can tell
 abbrev pub BoundsFit : Edition → ℕ → ℕ → Type 0
 BoundsFit First least most = (least ≡ most) × (most ≤ longest)
-BoundsFit (Second table) least most = (least ≤ most) × (most ≤ longest)
+BoundsFit (Second table) least most = InBounds least most
 
 abbrev pub UnbalancedFits : Edition → ℕ → ℕ → ℕ → ℕ → Type 0
 UnbalancedFits First region pc first second = (region < 64) × (pc < 2 ^ 16) × (first ≤ longest) × (second ≤ longest)

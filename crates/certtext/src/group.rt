@@ -14,7 +14,7 @@ pub fn of_core(said: &[Saying], core: u8) -> &[Saying]
     ensures { result.now ≡ of_core core said.now }
 {
     let mut rest = said;
-    'said: while let Some((first, behind)) = rest.split_first() {
+    'lines: while let Some((first, behind)) = rest.split_first() {
         rest = behind;
         if names(*first, core) {
             return rest;
@@ -38,7 +38,7 @@ pub fn certs_of(alloc: Global, table: Table, said: &[Saying]) -> Result<Vec<Cert
 {
     let mut lines = Vec::new(alloc);
     let mut rest = said;
-    'said: while let Some((first, behind)) = rest.split_first() {
+    'lines: while let Some((first, behind)) = rest.split_first() {
         rest = behind;
         match *first {
             Saying::Core(_) => return Ok(lines),
@@ -86,7 +86,7 @@ pub fn left_out(said: &[Saying]) -> u32
 {
     let mut count = 0;
     let mut rest = said;
-    'said: while let Some((first, behind)) = rest.split_first() {
+    'lines: while let Some((first, behind)) = rest.split_first() {
         rest = behind;
         match first {
             Saying::Core(_) => return count,

@@ -80,7 +80,8 @@ fn push_cert(text: &mut String, cert: &Cert) -> Result<(), Memory>
     ensures { OnOk result (string_bytes text.new ≡ string_bytes text.old ++ text_of (cert_lines cert.now)) }
 {
     writeln!(text, "cert {} {} {}", cert.region, cert.least, cert.most)?;
-    for label in cert.labels.as_slice() {
+    let labels = cert.labels.as_slice();
+    for label in labels {
         writeln!(
             text,
             "at {} {} {} {}",

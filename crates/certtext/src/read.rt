@@ -1,6 +1,6 @@
 //! Certificate files.
 
-ghost use Rattle.std.specs.Prelude.{◌≡◌, ◌+◌, ◌<◌, ◌^◌, ◌∷◌, ◌++◌, List, length, IfOk, IfErr, Some, None};
+ghost use Rattle.std.specs.Prelude.{◌≡◌, ◌↔◌, ◌+◌, ◌<◌, ◌^◌, [], ◌∷◌, ◌++◌, List, length, IsTrue, IfOk, IfErr, Some};
 ghost use Rattle.corestep.specs.declared.table.Table.{Table};
 ghost use Rattle.certtext.specs.declared.cert.CertLine.{CertLine};
 ghost use Rattle.certtext.specs.declared.edition.Edition.{Edition};
@@ -45,6 +45,8 @@ pub fn read_certs(alloc: Global, bytes: &[u8], core: u8) -> Result<CertFile, Cer
     requires core { core < 2 }
     // What is read is what stands there.
     ensures found { IfOk result (AreRead bytes.now core) }
+    // Its numbers are in their ranges, and its regions and labels ascend.
+    ensures whole { IfOk result (λ file. AreCerts file.table file.lines.items) }
     // What is a certificate file is read, unless memory runs out.
     ensures only { (edition : Edition) (said : List Saying) → IsFile bytes.now edition said → Gives (IsSaidOf edition said core) result }
     // What is printed is read again as the same.
@@ -97,10 +99,10 @@ fn read_first(lines: &mut Lines<'_>) -> Result<Edition, CertsFault>
     let Some(line) = lines.next_whole() else {
         return Err(CertsFault::Line(number));
     };
-    match read_edition(line) {
-        Some(edition) => Ok(edition),
-        None => Err(CertsFault::Line(number)),
-    }
+    let Some(edition) = read_edition(line) else {
+        return Err(CertsFault::Line(number));
+    };
+    Ok(edition)
 }
 
 /// The lines behind it, up to the end.
@@ -116,17 +118,25 @@ fn read_rest(
     let mut said = Vec::new(alloc);
     let mut place = Place::first();
     'said: loop {
-        let number = lines.number();
+        let at = lines.number();
         let Some(line) = lines.next_whole() else {
-            if place.names_last() && lines.is_end() {
-                return Ok(said);
-            }
-            return Err(CertsFault::Line(number));
+            return if ends(place, lines) {
+                Ok(said)
+            } else {
+                Err(CertsFault::Line(at))
+            };
         };
         let Some(next) = place.read_next(edition, line) else {
-            return Err(CertsFault::Line(number));
+            return Err(CertsFault::Line(at));
         };
         said.push(next)?;
         place = place.then(next);
     }
+}
+
+/// Whether a whole file is behind.
+fn ends(place: Place, lines: &Lines<'_>) -> bool
+    ensures { IsTrue result ↔ (place.core ≡ Some 1) × (lines.now.text ≡ []) }
+{
+    place.names_last() && lines.is_end()
 }
