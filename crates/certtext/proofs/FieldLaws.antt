@@ -1,12 +1,11 @@
 -- The fields of a line are read as they are printed, and what is read is printed so.
-use Rattle.std.proofs.Common.{◌≡◌, ℕ, ◌^◌, ◌-◌, ◌<◌, ◌≤◌, Bool, true, false, cond, ◌==◌, not, nat_le, List, [], ◌∷◌, ◌++◌}
+use Rattle.std.proofs.Common.{◌≡◌, ◌≢◌, ℕ, ◌^◌, ◌-◌, ◌<◌, ◌≤◌, Bool, true, false, cond, ◌==◌, not, nat_le, List, [], ◌∷◌, ◌++◌}
 use Rattle.std.proofs.Common.{length, drop, Option, Some, None, refl, sym, ap, ◌∙◌, arith, codes, option_and_then, subst}
 use Rattle.std.specs.List.{list_all, AllByRecursion, slice_get}
 use Rattle.std.specs.Prelude.{IfSome}
 use Rattle.std.specs.Str.{bytes_eq}
 use Rattle.std.specs.Fmt.{decimal}
-use Rattle.std.proofs.lemmas.Bool.{ne_eqb, le-leb, leb-true}
-use Rattle.std.proofs.lemmas.Bool.Decides.{nat_tests}
+use Rattle.std.proofs.lemmas.Bool.{and_parts, ne_eqb, eqb-false, le-leb, leb-true}
 use Rattle.std.proofs.lemmas.Option.{cond_some}
 use Rattle.std.proofs.lemmas.Slice.Eq.{bytes_eq-Decides}
 use Rattle.corestep.specs.declared.table.Table.TheVariants.{One, Two}
@@ -72,13 +71,15 @@ edition_only line edition is = ap edition_in is ∙ edition_there edition
 pub one_edition : (a b : Edition) → edition_text a ≡ edition_text b → a ≡ b
 one_edition a b e = some_inj (sym (edition_there a) ∙ edition_only (edition_text a) b e)
 
+apart : (byte c : ℕ) (t : Bool) → (c == byte) ≡ t → not t ≡ true → c ≢ byte
+apart byte c true is h = absurd (cc)
+apart byte c false is h = eqb-false c byte is
+
 lacks_all : (byte : ℕ) (word : List ℕ) → list_all (λ c. not (c == byte)) word ≡ true → Lacks byte word
 lacks_all byte [] h = tt
-lacks_all byte (c ∷ word) h = by (c == byte) refl h
-  where
-    by : (t : Bool) → (c == byte) ≡ t → cond (not t) (list_all (λ x. not (x == byte)) word) false ≡ true → Lacks byte (c ∷ word)
-    by true is h = absurd (cc)
-    by false is h = (grind (arith, nat_tests), lacks_all byte word h)
+lacks_all byte (c ∷ word) h =
+    let parts = and_parts (not (c == byte)) (list_all (λ x. not (x == byte)) word) h in
+    (apart byte c (c == byte) refl parts.0, lacks_all byte word parts.1)
 
 pub edition_lacks : (edition : Edition) → Lacks 10 (edition_text edition)
 edition_lacks First = lacks_all 10 (codes "certs 1") refl
@@ -377,3 +378,11 @@ pub one_saying : (edition : Edition) (s t : Saying) → Fits edition s → Fits 
     → s ≡ t
 one_saying edition s t a b same =
     some_inj (sym (line_told edition (saying_text edition s) s a refl) ∙ line_told edition (saying_text edition s) t b same)
+
+pub edition_text_told : (line : List ℕ) (o : Option Edition) → o ≡ edition_in line → IfSome o (λ edition. line ≡ edition_text edition)
+edition_text_told line None h = tt
+edition_text_told line (Some edition) h = edition_back line edition (sym h)
+
+pub edition_told_only : (line : List ℕ) (o : Option Edition) → o ≡ edition_in line → (edition : Edition) → line ≡ edition_text edition
+    → o ≡ Some edition
+edition_told_only line o h edition is = h ∙ edition_only line edition is

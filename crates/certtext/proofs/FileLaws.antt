@@ -1,7 +1,7 @@
 -- What the lines of a text say of it as a certificate file.
-use Rattle.std.proofs.Common.{◌≡◌, ◌≢◌, ℕ, suc, ◌+◌, ◌<◌, List, [], ◌∷◌, ◌++◌, length, map}
+use Rattle.std.proofs.Common.{◌≡◌, ◌≢◌, ℕ, suc, ◌+◌, ◌<◌, Bool, true, false, List, [], ◌∷◌, ◌++◌, length, map}
 use Rattle.std.proofs.Common.{Option, Some, None, Result, Ok, Err, refl, sym, ap, ◌∙◌, arith, subst, append_assoc}
-use Rattle.std.specs.Prelude.{IfOk, IfErr}
+use Rattle.std.specs.Prelude.{IfOk, IfErr, IsTrue}
 use Rattle.std.specs.List.{AllByRecursion}
 use Rattle.std.proofs.lemmas.List.{append-nil, length-append}
 use Rattle.textline.specs.Lines.{Lacks, text_of}
@@ -62,20 +62,20 @@ lines_once lines others l o e =
     by [] same left = sym (append-nil lines) ∙ same
     by (x ∷ more) same left = absurd (no_empty x (text_of more) (left ∙ line_front x (text_of more)))
 
-all_front : {P : List ℕ → Type 0} (front behind : List (List ℕ)) → AllByRecursion P (front ++ behind) → AllByRecursion P front
-all_front [] behind all = tt
-all_front (l ∷ front) behind all = (all.0, all_front front behind all.1)
+all_front : (P : List ℕ → Type 0) (front behind : List (List ℕ)) → AllByRecursion P (front ++ behind) → AllByRecursion P front
+all_front P [] behind all = tt
+all_front P (l ∷ front) behind all = (all.0, all_front P front behind all.1)
 
-all_behind : {P : List ℕ → Type 0} (front behind : List (List ℕ)) → AllByRecursion P (front ++ behind) → AllByRecursion P behind
-all_behind [] behind all = all
-all_behind (l ∷ front) behind all = all_behind front behind all.1
+all_behind : (P : List ℕ → Type 0) (front behind : List (List ℕ)) → AllByRecursion P (front ++ behind) → AllByRecursion P behind
+all_behind P [] behind all = all
+all_behind P (l ∷ front) behind all = all_behind P front behind all.1
 
 -- ---- lines that say something
 
-pub all_append : {P : Saying → Type 0} (said rest : List Saying) → AllByRecursion P said → AllByRecursion P rest
+pub all_append : (P : Saying → Type 0) (said rest : List Saying) → AllByRecursion P said → AllByRecursion P rest
     → AllByRecursion P (said ++ rest)
-all_append [] rest s r = r
-all_append (t ∷ said) rest s r = (s.0, all_append said rest s.1 r)
+all_append P [] rest s r = r
+all_append P (t ∷ said) rest s r = (s.0, all_append P said rest s.1 r)
 
 pub map_append : (edition : Edition) (said rest : List Saying)
     → map (saying_text edition) (said ++ rest) ≡ map (saying_text edition) said ++ map (saying_text edition) rest
@@ -138,7 +138,7 @@ pub so_far_more : (edition : Edition) (text : List ℕ) (number : ℕ) (said : L
     → (more : List Saying) → more ≡ said ++ s ∷ [] → IsSoFar edition text number more behind after
 so_far_more edition text number said left at l behind after s place h cut counts fits is here may more pushed =
     subst (λ (ss : List Saying). IsSoFar edition text number ss behind after) (sym pushed) (record {
-      fits = all_append said (s ∷ []) h.fits (fits, tt);
+      fits = all_append (Fits edition) said (s ∷ []) h.fits (fits, tt);
       order = order_push start said s h.order (subst (λ (p : Place). MayCome p s) here may);
       same = h.same ∙ ap (λ t. text_of lines ++ t) (cut ∙ ap (λ t. t ++ 10 ∷ behind) is ∙ sym (line_front (saying_text edition s) behind))
           ∙ sym (append_assoc (text_of lines) (saying_text edition s ++ 10 ∷ []) behind)
@@ -170,12 +170,12 @@ rest_whole edition text number said left at place h here last none = record {
 pub fails_at_end : (edition : Edition) (text : List ℕ) (number : ℕ) (said : List Saying) (left : List ℕ) (at : ℕ) (place : Place)
     → IsSoFar edition text number said left at → place ≡ place_behind start said → Lacks 10 left
     → ((place.core ≡ Some 1) × (left ≡ []) → ⊥) → FailsAt edition text number at
-fails_at_end edition text number said left at place h here lacks no = record {
+fails_at_end edition text number said left at place h here lacks open_end = record {
   said = said;
   left = left;
   so_far = h;
   next = λ s behind fits may is. no_cut 10 (saying_text edition s) behind (subst (Lacks 10) is lacks);
-  end = λ none last. no (ap (λ (p : Place). p.core) here ∙ last, none);
+  end = λ none last. open_end (ap (λ (p : Place). p.core) here ∙ last, none);
 }
 
 -- a line that says nothing that may come next
@@ -270,7 +270,7 @@ rest_bad text rest edition at cut h =
           edition = edition;
           said = said ++ on.rest;
           are = record {
-            fits = all_append said on.rest h.so_far.fits on.fits;
+            fits = all_append (Fits edition) said on.rest h.so_far.fits on.fits;
             order = order_append start said on.rest h.so_far.order on.order;
             whole = ap (λ (p : Place). p.core) (place_append start said on.rest) ∙ on.whole;
           };
@@ -315,7 +315,7 @@ good_file : (text : List ℕ) (edition : Edition) (said : List Saying) (number :
 good_file text edition said number f bad =
     let lines = file_lack edition said f.are.fits in
     let file = bad.front.file in
-    let lacks = all_front bad.before bad.front.more (subst (AllByRecursion (Lacks 10)) (sym file.same)
+    let lacks = all_front (Lacks 10) bad.before bad.front.more (subst (AllByRecursion (Lacks 10)) (sym file.same)
     (file_lack file.edition file.said file.are.fits)) in
     let split = split_lines bad.before (file_lines edition said) bad.rest lacks lines (sym bad.same ∙ f.same) in
     by split.0 split.1 split.2
@@ -323,7 +323,7 @@ good_file text edition said number f bad =
     by : (more : List (List ℕ)) → bad.before ++ more ≡ file_lines edition said → bad.rest ≡ text_of more → ⊥
     by [] same left = bad.end left
         (record { edition = edition; said = said; are = f.are; same = sym (append-nil bad.before) ∙ same })
-    by (l ∷ more) same left = bad.next l (text_of more) ((all_behind bad.before (l ∷ more)
+    by (l ∷ more) same left = bad.next l (text_of more) ((all_behind (Lacks 10) bad.before (l ∷ more)
         (subst (AllByRecursion (Lacks 10)) (sym same) (file_lack edition said f.are.fits))).0)
         (left ∙ line_front l (text_of more))
         (record {
@@ -348,3 +348,11 @@ file_gives text core (Ok file) found fault edition said f =
     (subst (λ (x : Edition). IsSaidOf x found.said core file) same.0 found.says)
 file_gives text core (Err (Line number)) found fault edition said f = good_file text edition said number f fault
 file_gives text core (Err Memory) found fault edition said f = tt
+
+-- a line that names no edition
+pub nothing_named : (o : Option Edition) (l : List ℕ) → o ≡ None → ((edition : Edition) → l ≡ edition_text edition → o ≡ Some edition)
+    → (edition : Edition) → l ≡ edition_text edition → ⊥
+nothing_named o l none only edition is = let h = only edition is in cc
+
+pub untrue : {P : Type 0} (b : Bool) → b ≡ false → (P → IsTrue b) → P → ⊥
+untrue b is yields p = let h = yields p in cc

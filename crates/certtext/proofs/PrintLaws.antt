@@ -43,7 +43,7 @@ certs_said [] = []
 certs_said (l ∷ lines) = region_said l ++ certs_said lines
 
 abbrev file_said : List CertLine → List CertLine → List Saying
-file_said zero one = Core 0 ∷ (certs_said zero ++ Core 1 ∷ certs_said one)
+file_said zeros one = Core 0 ∷ (certs_said zeros ++ Core 1 ∷ certs_said one)
 
 -- ---- its text
 
@@ -70,12 +70,12 @@ certs_said_text table (l ∷ lines) h =
     ∙ ap (λ ls. ls ++ map (saying_text (Second table)) (certs_said lines)) (region_text table l h.0)
     ∙ ap (λ ls. region_lines l ++ ls) (certs_said_text table lines h.1)
 
-file_text : (table : Table) (zero one : List CertLine) → AllByRecursion (IsLine table) zero → AllByRecursion (IsLine table) one
-    → map (saying_text (Second table)) (file_said zero one) ≡ core_text 0 ∷ certs_lines zero ++ core_text 1 ∷ certs_lines one
-file_text table zero one z o =
-    ap (λ ls. core_text 0 ∷ ls) (map_append (Second table) (certs_said zero) (Core 1 ∷ certs_said one)
-    ∙ ap (λ ls. ls ++ core_text 1 ∷ map (saying_text (Second table)) (certs_said one)) (certs_said_text table zero z)
-    ∙ ap (λ ls. certs_lines zero ++ core_text 1 ∷ ls) (certs_said_text table one o))
+file_text : (table : Table) (zeros one : List CertLine) → AllByRecursion (IsLine table) zeros → AllByRecursion (IsLine table) one
+    → map (saying_text (Second table)) (file_said zeros one) ≡ core_text 0 ∷ certs_lines zeros ++ core_text 1 ∷ certs_lines one
+file_text table zeros one z o =
+    ap (λ ls. core_text 0 ∷ ls) (map_append (Second table) (certs_said zeros) (Core 1 ∷ certs_said one)
+    ∙ ap (λ ls. ls ++ core_text 1 ∷ map (saying_text (Second table)) (certs_said one)) (certs_said_text table zeros z)
+    ∙ ap (λ ls. certs_lines zeros ++ core_text 1 ∷ ls) (certs_said_text table one o))
 
 -- ---- its ranges
 
@@ -94,7 +94,7 @@ certs_fit : (table : Table) (lines : List CertLine) → AllByRecursion (IsLine t
     → AllByRecursion (Fits (Second table)) (certs_said lines)
 unfolding certs_said
 certs_fit table [] h = tt
-certs_fit table (l ∷ lines) h = all_append (region_said l) (certs_said lines) (region_fits table l h.0) (certs_fit table lines h.1)
+certs_fit table (l ∷ lines) h = all_append (Fits (Second table)) (region_said l) (certs_said lines) (region_fits table l h.0) (certs_fit table lines h.1)
 
 -- ---- its order
 
@@ -138,10 +138,10 @@ unfolding certs_said
 certs_order table p core [] rest h a c b r = r p c
 certs_order table p core (l ∷ []) rest h a c b r =
     subst (InOrder p) (sym (append_assoc (region_said l) [] rest))
-    (region_order table p l rest h.0 (subst (λ (o : Option ℕ). IsSome o) (sym c) tt) b (λ q same e. r q (same ∙ c)))
+    (region_order table p l rest h.0 (subst (λ (o : Option ℕ). IsSome o) (sym c) refl) b (λ q same e. r q (same ∙ c)))
 certs_order table p core (l ∷ k ∷ lines) rest h a c b r =
     subst (InOrder p) (sym (append_assoc (region_said l) (certs_said (k ∷ lines)) rest))
-    (region_order table p l (certs_said (k ∷ lines) ++ rest) h.0 (subst (λ (o : Option ℕ). IsSome o) (sym c) tt) b
+    (region_order table p l (certs_said (k ∷ lines) ++ rest) h.0 (subst (λ (o : Option ℕ). IsSome o) (sym c) refl) b
     (λ q same e. certs_order table q core (k ∷ lines) rest h.1 a.1 (same ∙ c)
     (subst (λ (o : Option ℕ). IfSome o (λ n. n < region_of k)) (sym e) a.0) r))
 
@@ -185,7 +185,7 @@ printed_file table zeros one z o = record {
   are = record {
     fits = (
       omega arith,
-      all_append (certs_said zeros) (Core 1 ∷ certs_said one) (certs_fit table zeros z.each) (omega arith, certs_fit table one o.each),
+      all_append (Fits (Second table)) (certs_said zeros) (Core 1 ∷ certs_said one) (certs_fit table zeros z.each) (omega arith, certs_fit table one o.each),
     );
     order = file_order table zeros one z o;
     whole = file_whole zeros one;

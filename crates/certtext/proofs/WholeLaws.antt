@@ -107,14 +107,16 @@ record IsPart (edition : Edition) (said : List Saying) : Type 0 where
   pub fits : AllByRecursion (Fits edition) said
   pub order : InOrder place said
 
+part_by : (edition : Edition) (said rest : List Saying) (t : Bool) → IsPart edition said → IsPart edition rest
+    → IsPart edition (cond t said rest)
+part_by edition said rest true a b = a
+part_by edition said rest false a b = b
+
 part : (edition : Edition) (core : ℕ) (p : Place) (said : List Saying) → AllByRecursion (Fits edition) said → InOrder p said
     → IsPart edition (of_core core said)
 part edition core p [] f o = record { place = p; fits = tt; order = tt }
-part edition core p (s ∷ said) f o = by (names core s)
-  where
-    by : (t : Bool) → IsPart edition (cond t said (of_core core said))
-    by true = record { place = next p s; fits = f.1; order = o.1 }
-    by false = part edition core (next p s) said f.1 o.1
+part edition core p (s ∷ said) f o = part_by edition said (of_core core said) (names core s)
+    (record { place = next p s; fits = f.1; order = o.1 }) (part edition core (next p s) said f.1 o.1)
 
 -- what is read is whole
 pub read_whole : (text : List ℕ) (core : ℕ) (file : CertFile) → AreRead text core file → AreCerts file.table file.lines.items

@@ -28,8 +28,15 @@ impl Edition {
 }
 
 /// The edition of a file that begins with this line.
-#[tactic(auto, unfolding(crate::specs::Fields::edition_in))]
 pub fn read_edition(line: &[u8]) -> Option<Edition>
+    ensures text { IfSome result (λ edition. line.now ≡ edition_text edition) }
+    ensures only { (edition : Edition) → line.now ≡ edition_text edition → result ≡ Some edition }
+{
+    named_edition(line)
+}
+
+#[tactic(auto, unfolding(crate::specs::Fields::edition_in))]
+fn named_edition(line: &[u8]) -> Option<Edition>
     ensures { result ≡ edition_in line.now }
 {
     if line == b"certs 1".as_slice() {

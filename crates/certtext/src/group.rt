@@ -1,6 +1,6 @@
 //! The certificates that lines say.
 
-ghost use Rattle.std.specs.Prelude.{◌≡◌, ◌<◌, ◌^◌, length, IfOk};
+ghost use Rattle.std.specs.Prelude.{◌≡◌, ◌<◌, ◌≤◌, ◌^◌, length, IfOk};
 ghost use Rattle.certtext.specs.Certs.{names, of_core, first_labels, certs_in, left_out};
 
 use crate::cert::{Cert, CertLine, Label, Labels};
@@ -11,7 +11,8 @@ use std::alloc::Global;
 
 /// What is said behind the line that names the core.
 pub fn of_core(said: &[Saying], core: u8) -> &[Saying]
-    ensures { result.now ≡ of_core core said.now }
+    ensures part { result.now ≡ of_core core said.now }
+    ensures shorter { length result.now ≤ length said.now }
 {
     let mut rest = said;
     'lines: while let Some((first, behind)) = rest.split_first() {
