@@ -8,8 +8,12 @@ use Rattle.loopbound.specs.declared.graph.Bounds.{Bounds}
 use Rattle.loopbound.specs.declared.graph.Loop.{Loop}
 use Rattle.loopbound.specs.declared.graph.Step.{Step}
 use Rattle.loopbound.specs.declared.graph.TimedLoop.{TimedLoop}
-use Rattle.loopbound.specs.Loops.{Move, Stay, Turn, Leave, holds, move, move_by, turns_at, Counted, Counts, NoneTurned}
-use Rattle.loopbound.specs.Path.{Side, Least, Most, at, Path, begin, step, Exactly}
+use Rattle.loopbound.specs.declared.graph.Move.{Move}
+use Rattle.loopbound.specs.declared.graph.Move.TheVariants.{Stay, Turn, Leave}
+use Rattle.loopbound.specs.Loops.{holds, move, move_by, turns_at, Counted, Counts, NoneTurned}
+use Rattle.loopbound.specs.declared.graph.Side.{Side}
+use Rattle.loopbound.specs.declared.graph.Side.TheVariants.{Least, Most}
+use Rattle.loopbound.specs.Path.{at, Path, begin, step, Exactly}
 use Rattle.loopbound.specs.Table.{shapes, side_of, taken, gain, due, gains, dues, Allows, CanGo, Labels, Fits, FitsStep, Meets, TurnsNone}
 use Rattle.loopbound.specs.Table.{Reason, at_entry, by_step, TurnReason, Tight, Runs, Running, LiesIn, Apart, InnerFirst, Nested}
 use Rattle.loopbound.proofs.EachLemmas.{each-both, each-map}
@@ -177,21 +181,21 @@ module _ (Has : Step → Type 0) (loops : List TimedLoop) (label : Labels) (entr
   abbrev Below : ℕ → (Loop → ℕ) → Type 0
   Below w k = (v : ℕ) (j : Loop → ℕ) → height v j < height w k → IsSome (label v) → Running loops v j → Reached v j
 
-  back : (s : Step) (k : Loop → ℕ) → Meets Has loops label side s → AllByRecursion (Before s.from s.to k) loops → Below s.to k
+  back : (s : Step) (k : Loop → ℕ) → Has s → Meets loops label side s → AllByRecursion (Before s.from s.to k) loops → Below s.to k
       → Reached s.to k
-  back s k meets all below =
+  back s k has meets all below =
       let j : Loop → ℕ = counts_before s.from s.to k in
       let b = all_before s.from s.to k loops all in
-      let f = fits.steps s meets.has meets.known meets.can in
+      let f = fits.steps s has meets.known meets.can in
       let high = f.high in
       let most = all_counts Most s.from s.to j k loops b.0 in
       let exact = all_counts side s.from s.to j k loops b.0 in
-      let time = nested.takes_time s meets.has in
+      let time = nested.takes_time s has in
       let same = meets.same in
       let path = below s.from j (omega (arith, high, most, time)) meets.known b.1 in
       subst (λ n. Path (Exactly side) Has (shapes loops) entry s.to k n)
       (omega (arith, same, exact))
-      (step s j k (side_of side (label s.from) + taken side j loops) (at side s.cost) path meets.has refl b.0)
+      (step s j k (side_of side (label s.from) + taken side j loops) (at side s.cost) path has refl b.0)
 
   -- that a step into w is the one before, where it turns what has turned and leaves no turned loop outside
   record Fact (u w : ℕ) (k : Loop → ℕ) (l : TimedLoop) : Type 0 where
@@ -221,38 +225,38 @@ module _ (Has : Step → Type 0) (loops : List TimedLoop) (label : Labels) (entr
   -- ---- the step before
 
   -- a loop that begins here has turned
-  by_turn : (s : Step) (k : Loop → ℕ) (l : Loop) → Meets Has loops label side s → move l s.from s.to ≡ Turn → 0 < k l
+  by_turn : (s : Step) (k : Loop → ℕ) (l : Loop) → Has s → Meets loops label side s → move l s.from s.to ≡ Turn → 0 < k l
       → AllByRecursion (λ o. holds o.shape s.to ≡ true → o.shape.first ≡ s.to → 0 < k o.shape → LiesIn l o.shape) loops
       → Running loops s.to k → Below s.to k → Reached s.to k
-  by_turn s k l meets turns more innermost running below =
+  by_turn s k l has meets turns more innermost running below =
       let t = turned l s.from s.to turns in
-      back s k meets
-      (facts s k meets.has running meets.can
+      back s k has meets
+      (facts s k has running meets.can
       (each-both
       (λ o. move o.shape s.from s.to ≡ Turn → l ≡ o.shape)
       (λ o. holds o.shape s.to ≡ true → o.shape.first ≡ s.to → 0 < k o.shape → LiesIn l o.shape)
       (Fact s.from s.to k)
       (λ o one inner. record {
         more = λ it. subst (λ (x : Loop). 0 < k x) (one it) more;
-        kept = λ it first has. held_in l o.shape s.from (inner it first has) t.from;
+        kept = λ it first has_turned. held_in l o.shape s.from (inner it first has_turned) t.from;
       })
-      loops (nested.one_turn s l meets.has turns) innermost))
+      loops (nested.one_turn s l has turns) innermost))
       below
 
   -- none has
-  by_reason : (s : Step) (k : Loop → ℕ) → Meets Has loops label side s → TurnsNone loops s
+  by_reason : (s : Step) (k : Loop → ℕ) → Has s → Meets loops label side s → TurnsNone loops s
       → AllByRecursion (λ l. l.shape.first ≡ s.to → k l.shape ≡ 0) loops
       → Running loops s.to k → Below s.to k → Reached s.to k
-  by_reason s k meets none zeros running below =
-      back s k meets
-      (facts s k meets.has running meets.can
+  by_reason s k has meets none zeros running below =
+      back s k has meets
+      (facts s k has running meets.can
       (each-both
       (λ o. move o.shape s.from s.to ≡ Turn → ⊥)
       (λ o. o.shape.first ≡ s.to → k o.shape ≡ 0)
       (Fact s.from s.to k)
       (λ o no unturned. record {
         more = λ it. absurd (no it);
-        kept = λ it first has. absurd (let z = unturned first in omega (arith, z, has));
+        kept = λ it first more. absurd (let z = unturned first in omega (arith, z, more));
       })
       loops none zeros))
       below
@@ -297,7 +301,7 @@ module _ (Has : Step → Type 0) (loops : List TimedLoop) (label : Labels) (entr
       (λ (v : ℕ). AllByRecursion (λ o. holds o.shape v ≡ true → o.shape.first ≡ v → 0 < k o.shape → LiesIn l.shape o.shape) loops
       → Running loops v k → Below v k → Reached v k)
       to
-      (by_turn s k l.shape reason.meets reason.turns p.more)
+      (by_turn s k l.shape reason.has reason.meets reason.turns p.more)
       p.innermost running below
 
   before_none : (w : ℕ) (k : Loop → ℕ) → Reason Has loops label entry side w
@@ -309,11 +313,11 @@ module _ (Has : Step → Type 0) (loops : List TimedLoop) (label : Labels) (entr
       (sym is)
       (λ at_zero zeros running below. at_begin k at_zero zeros running)
       at_zero
-  before_none w k (by_step s to meets none) =
+  before_none w k (by_step s has to meets none) =
       subst
       (λ (v : ℕ). AllByRecursion (λ l. l.shape.first ≡ v → k l.shape ≡ 0) loops → Running loops v k → Below v k → Reached v k)
       to
-      (by_reason s k meets none)
+      (by_reason s k has meets none)
 
   one_back : (w : ℕ) (k : Loop → ℕ) → IsSome (label w) → Running loops w k → Below w k → Reached w k
   one_back w k known running below =

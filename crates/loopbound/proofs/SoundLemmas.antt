@@ -7,8 +7,12 @@ use Rattle.loopbound.specs.declared.graph.Bounds.{Bounds}
 use Rattle.loopbound.specs.declared.graph.Loop.{Loop}
 use Rattle.loopbound.specs.declared.graph.Step.{Step}
 use Rattle.loopbound.specs.declared.graph.TimedLoop.{TimedLoop}
-use Rattle.loopbound.specs.Loops.{Move, Stay, Turn, Leave, holds, move, move_by, turns_at, Counted, Counts, NoneTurned}
-use Rattle.loopbound.specs.Path.{Side, Least, Most, at, Path, begin, step, Within}
+use Rattle.loopbound.specs.declared.graph.Move.{Move}
+use Rattle.loopbound.specs.declared.graph.Move.TheVariants.{Stay, Turn, Leave}
+use Rattle.loopbound.specs.Loops.{holds, move, move_by, turns_at, Counted, Counts, NoneTurned}
+use Rattle.loopbound.specs.declared.graph.Side.{Side}
+use Rattle.loopbound.specs.declared.graph.Side.TheVariants.{Least, Most}
+use Rattle.loopbound.specs.Path.{at, Path, begin, step, Within}
 use Rattle.loopbound.specs.Table.{shapes, side_of, taken, gain, due, gains, dues, Allows, CanGo, HasTurn, HaveTurns, Labels, Fits, FitsStep}
 use Rattle.loopbound.specs.Table.{Runs, Running, Bounded}
 

@@ -2,17 +2,13 @@
 use Rattle.std.specs.Prelude.{◌≡◌, ℕ, ◌+◌, ◌<◌, ◌&&◌, ◌==◌, Bool, true, false, nat_le, List}
 use Rattle.std.specs.List.{AllByRecursion}
 use Rattle.loopbound.specs.declared.graph.Loop.{Loop}
+use Rattle.loopbound.specs.declared.graph.Move.{Move}
+use Rattle.loopbound.specs.declared.graph.Move.TheVariants.{Stay, Turn, Leave}
 
 abbrev pub holds : Loop → ℕ → Bool
 holds l w = nat_le l.first w && nat_le w l.last
 
--- what a step is to a loop
-pub data Move : Type 0 where
-  Stay : Move
-  Turn : Move
-  Leave : Move
-
--- by whether the loop holds the word before and the word behind, and whether such a step turns it
+-- what a step is to a loop, by whether the loop holds the word before and the word behind, and whether such a step turns it
 abbrev pub move_by : Bool → Bool → Bool → Move
 move_by false inside turns = Stay
 move_by true false turns = Leave

@@ -2,13 +2,10 @@
 use Rattle.std.specs.Prelude.{◌≡◌, ℕ, ◌+◌, ◌≤◌, List}
 use Rattle.loopbound.specs.declared.graph.Bounds.{Bounds}
 use Rattle.loopbound.specs.declared.graph.Loop.{Loop}
+use Rattle.loopbound.specs.declared.graph.Side.{Side}
+use Rattle.loopbound.specs.declared.graph.Side.TheVariants.{Least, Most}
 use Rattle.loopbound.specs.declared.graph.Step.{Step}
 use Rattle.loopbound.specs.Loops.{Counts, NoneTurned}
-
--- one side of bounds
-pub data Side : Type 0 where
-  Least : Side
-  Most : Side
 
 abbrev pub at : Side → Bounds → ℕ
 at Least b = b.least

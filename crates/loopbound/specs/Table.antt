@@ -1,12 +1,16 @@
 -- Tables of bounds: a label for each word, the bounds of the sums there in first turns, and the bounds of one turn of each loop.
-use Rattle.std.specs.Prelude.{◌≡◌, ℕ, ◌+◌, ◌-◌, ◌*◌, ◌<◌, ◌≤◌, ◌⊎◌, Bool, true, false, List, [], ◌∷◌, Option, Some, None, IsSome}
+use Rattle.std.specs.Prelude.{◌≡◌, ℕ, ◌+◌, ◌-◌, ◌*◌, ◌<◌, ◌≤◌, ◌⊎◌, Bool, true, false, List, [], ◌∷◌, Option, Some, None, IsSome, slice_index_or}
 use Rattle.std.specs.List.{AllByRecursion}
 use Rattle.loopbound.specs.declared.graph.Bounds.{Bounds}
 use Rattle.loopbound.specs.declared.graph.Loop.{Loop}
 use Rattle.loopbound.specs.declared.graph.Step.{Step}
 use Rattle.loopbound.specs.declared.graph.TimedLoop.{TimedLoop}
-use Rattle.loopbound.specs.Loops.{Move, Stay, Turn, Leave, holds, move}
-use Rattle.loopbound.specs.Path.{Side, Least, Most, at}
+use Rattle.loopbound.specs.declared.graph.Move.{Move}
+use Rattle.loopbound.specs.declared.graph.Move.TheVariants.{Stay, Turn, Leave}
+use Rattle.loopbound.specs.Loops.{holds, move}
+use Rattle.loopbound.specs.declared.graph.Side.{Side}
+use Rattle.loopbound.specs.declared.graph.Side.TheVariants.{Least, Most}
+use Rattle.loopbound.specs.Path.{at}
 
 abbrev pub shapes : List TimedLoop → List Loop
 shapes [] = []
@@ -67,6 +71,10 @@ HaveTurns w v loops = AllByRecursion (λ l. HasTurn (move l.shape w v) l.turn) l
 abbrev pub Labels : Type 0
 Labels = ℕ → Option Bounds
 
+-- the labels in a list, by their words
+abbrev pub label_in : List (Option Bounds) → Labels
+label_in labels w = slice_index_or labels w None
+
 -- what a step says of the labels of its two words
 pub record FitsStep (loops : List TimedLoop) (label : Labels) (s : Step) : Type 0 where
   pub known : IsSome (label s.to)
@@ -76,15 +84,18 @@ pub record FitsStep (loops : List TimedLoop) (label : Labels) (s : Step) : Type 
   pub high : side_of Most (label s.from) + s.cost.most + gains Most s.from s.to loops
       ≤ side_of Most (label s.to) + dues Most s.from s.to loops
 
+-- a step that some path takes
+abbrev pub KeepsBounds : List TimedLoop → Labels → Step → Type 0
+KeepsBounds loops label s = IsSome (label s.from) → CanGo s.from s.to loops → FitsStep loops label s
+
 -- A table fits where the bounds are kept by each step.
 pub record Fits (Has : Step → Type 0) (loops : List TimedLoop) (label : Labels) (entry : ℕ) : Type 0 where
   pub known : IsSome (label entry)
   pub zero : side_of Least (label entry) ≡ 0
-  pub steps : (s : Step) → Has s → IsSome (label s.from) → CanGo s.from s.to loops → FitsStep loops label s
+  pub steps : (s : Step) → Has s → KeepsBounds loops label s
 
 -- a step that meets one side of the bounds
-pub record Meets (Has : Step → Type 0) (loops : List TimedLoop) (label : Labels) (side : Side) (s : Step) : Type 0 where
-  pub has : Has s
+pub record Meets (loops : List TimedLoop) (label : Labels) (side : Side) (s : Step) : Type 0 where
   pub known : IsSome (label s.from)
   pub can : CanGo s.from s.to loops
   pub same : side_of side (label s.to) + dues side s.from s.to loops
@@ -96,12 +107,14 @@ TurnsNone loops s = AllByRecursion (λ l. move l.shape s.from s.to ≡ Turn → 
 -- why a word has its label: it is the entry's, or a step that turns nothing comes to it
 pub data Reason (Has : Step → Type 0) (loops : List TimedLoop) (label : Labels) (entry : ℕ) (side : Side) (w : ℕ) : Type 0 where
   at_entry : w ≡ entry → side_of side (label w) ≡ 0 → Reason Has loops label entry side w
-  by_step : (s : Step) → s.to ≡ w → Meets Has loops label side s → TurnsNone loops s → Reason Has loops label entry side w
+  by_step : (s : Step) → Has s → s.to ≡ w → Meets loops label side s → TurnsNone loops s
+      → Reason Has loops label entry side w
 
 -- why a loop has its turn
 pub record TurnReason (Has : Step → Type 0) (loops : List TimedLoop) (label : Labels) (side : Side) (l : Loop) : Type 0 where
   pub step : Step
-  pub meets : Meets Has loops label side step
+  pub has : Has step
+  pub meets : Meets loops label side step
   pub turns : move l step.from step.to ≡ Turn
 
 -- A table is tight where one step meets each of its bounds.

@@ -1,10 +1,31 @@
 //! Steps between words, and the loops of the words.
 
+ghost use Rattle.std.specs.Prelude.{◌≡◌};
+ghost use Rattle.loopbound.specs.Loops.{holds, move};
+ghost use Rattle.loopbound.specs.Path.{at};
+ghost use Rattle.loopbound.specs.Table.{side_of};
+
+/// One side of bounds.
+#[derive(Clone, Copy, Debug, PartialEq, Eq)]
+pub enum Side {
+    Least,
+    Most,
+}
+
+/// What a step is to a loop.
+#[derive(Clone, Copy, Debug, PartialEq, Eq)]
+pub enum Move {
+    /// It leaves its turns as they are.
+    Stay,
+    Turn,
+    Leave,
+}
+
 /// The least and the greatest of some sums.
 #[derive(Clone, Copy, Debug, PartialEq, Eq)]
 pub struct Bounds {
-    pub least: u64,
-    pub most: u64,
+    pub least: u32,
+    pub most: u32,
 }
 
 /// A step from one word to another, or round a call, with the bounds of its cycles.
@@ -30,4 +51,48 @@ pub struct Loop {
 pub struct TimedLoop {
     pub shape: Loop,
     pub turn: Option<Bounds>,
+}
+
+impl Bounds {
+    pub fn at(self, side: Side) -> u32
+        ensures { result ≡ at side self }
+    {
+        match side {
+            Side::Least => self.least,
+            Side::Most => self.most,
+        }
+    }
+}
+
+/// One side of bounds, and 0 where there are none.
+pub fn side_of(side: Side, bounds: Option<Bounds>) -> u32
+    ensures { result ≡ side_of side bounds }
+{
+    match bounds {
+        Some(b) => b.at(side),
+        None => 0,
+    }
+}
+
+impl Loop {
+    pub fn holds(&self, word: u32) -> bool
+        ensures { result ≡ holds self.now word }
+    {
+        self.first <= word && word <= self.last
+    }
+
+    pub fn movement(&self, step: &Step) -> Move
+        ensures { result ≡ move self.now step.now.from step.now.to }
+    {
+        if !self.holds(step.from) {
+            return Move::Stay;
+        }
+        if !self.holds(step.to) {
+            return Move::Leave;
+        }
+        if self.after <= step.from && step.to == self.first {
+            return Move::Turn;
+        }
+        Move::Stay
+    }
 }

@@ -4,7 +4,8 @@ ghost use Rattle.std.specs.Prelude.{◌+◌, List, ℕ, IsSome, Contains};
 ghost use Rattle.loopbound.specs.declared.graph.Loop.{Loop};
 ghost use Rattle.loopbound.specs.declared.graph.Step.{Step};
 ghost use Rattle.loopbound.specs.declared.graph.TimedLoop.{TimedLoop};
-ghost use Rattle.loopbound.specs.Path.{Side, Path, Within, Exactly};
+ghost use Rattle.loopbound.specs.declared.graph.Side.{Side};
+ghost use Rattle.loopbound.specs.Path.{Path, Within, Exactly};
 ghost use Rattle.loopbound.specs.Table.{Labels, Fits, Tight, Nested, Running, Bounded, shapes, side_of, taken};
 
 /// Bounds that each step keeps are bounds of each path: where a loop has turned k times in a path, the sum has k of its turns.

@@ -3,9 +3,11 @@
 
 mod graph;
 mod laws;
+mod sums;
 
-pub use graph::{Bounds, Loop, Step, TimedLoop};
+pub use graph::{Bounds, Loop, Move, Side, Step, TimedLoop};
 pub use laws::{exactness, soundness};
+pub use sums::{can_go, dues, gains, have_turns, turns_none};
 
 #[cfg(test)]
 mod tests;
