@@ -1,6 +1,9 @@
 -- Facts of each element of a list.
-use Rattle.std.proofs.Common.{List, [], ◌∷◌}
+use Rattle.std.proofs.Common.{◌≡◌, ℕ, zero, suc, ◌<◌, ◌⊎◌, inl, inr, List, [], ◌∷◌, length, refl, sym, ap, subst, arith, Contains}
 use Rattle.std.specs.List.{AllByRecursion}
+use Rattle.std.specs.Prelude.{slice_index_or}
+use Rattle.std.proofs.lemmas.List.Elements.{All-from_recursion, All-contains}
+use Rattle.loopbound.specs.Table.{AnyOf}
 
 module _ {X : Type 0} (P Q R : X → Type 0) where
   -- one fact from two
@@ -12,3 +15,25 @@ module _ {X : Type 0} (P Q : X → Type 0) where
   pub each-map : ((x : X) → P x → Q x) → (xs : List X) → AllByRecursion P xs → AllByRecursion Q xs
   each-map f [] ps = tt
   each-map f (x ∷ xs) ps = (f x ps.0, each-map f xs ps.1)
+
+-- ---- by index
+
+contains_first : {X : Type 0} (x : X) (xs : List X) → Contains (x ∷ xs) x
+contains_first x xs = (zero, omega arith, refl)
+
+contains_later : {X : Type 0} (y x : X) (xs : List X) → Contains xs x → Contains (y ∷ xs) x
+contains_later y x xs c = (suc c.0, let less = c.1 in omega (arith, less), c.2)
+
+module _ {X : Type 0} (P : X → Type 0) where
+  pub each-contained : (xs : List X) → AllByRecursion P xs → (x : X) → Contains xs x → P x
+  each-contained xs all x has = All-contains P xs x (All-from_recursion P xs all) has
+
+  pub contained-each : (xs : List X) → ((x : X) → Contains xs x → P x) → AllByRecursion P xs
+  contained-each [] all = tt
+  contained-each (x ∷ xs) all = (all x (contains_first x xs), contained-each xs (λ y has. all y (contains_later x y xs has)))
+
+  pub any-contained : (xs : List X) → AnyOf P xs → (x : X) × Contains xs x × P x
+  any-contained [] none = absurd none
+  any-contained (x ∷ xs) (inl here) = (x, contains_first x xs, here)
+  any-contained (x ∷ xs) (inr rest) =
+      let r = any-contained xs rest in (r.0, contains_later x r.0 xs r.1, r.2)

@@ -164,3 +164,18 @@ pub record Nested (Has : Step → Type 0) (loops : List TimedLoop) (entry : ℕ)
   pub one_turn : (s : Step) (l : Loop) → Has s → move l s.from s.to ≡ Turn
       → AllByRecursion (λ other. move other.shape s.from s.to ≡ Turn → l ≡ other.shape) loops
   pub takes_time : (s : Step) → Has s → 0 < s.cost.most
+
+-- ---- for lists
+
+-- an element has P
+abbrev pub AnyOf : {X : Type 0} → (X → Type 0) → List X → Type 0
+AnyOf P [] = ⊥
+AnyOf P (x ∷ xs) = P x ⊎ AnyOf P xs
+
+-- a step comes to a word, turns nothing and meets its label
+abbrev pub Explains : List TimedLoop → Labels → Side → ℕ → Step → Type 0
+Explains loops label side w s = (s.to ≡ w) × Meets loops label side s × TurnsNone loops s
+
+-- a step turns a loop and meets its turn
+abbrev pub ExplainsTurn : List TimedLoop → Labels → Side → Loop → Step → Type 0
+ExplainsTurn loops label side l s = Meets loops label side s × (move l s.from s.to ≡ Turn)
