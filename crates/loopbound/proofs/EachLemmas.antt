@@ -37,3 +37,11 @@ module _ {X : Type 0} (P : X → Type 0) where
   any-contained (x ∷ xs) (inl here) = (x, contains_first x xs, here)
   any-contained (x ∷ xs) (inr rest) =
       let r = any-contained xs rest in (r.0, contains_later x r.0 xs r.1, r.2)
+
+  at_index : (xs : List X) (x : X) (k : ℕ) → k < length xs → slice_index_or xs k x ≡ x → P x → AnyOf P xs
+  at_index [] x k less is p = absurd (omega (arith, less))
+  at_index (y ∷ xs) x zero less is p = inl (subst P (sym is) p)
+  at_index (y ∷ xs) x (suc k) less is p = inr (at_index xs x k (omega (arith, less)) is p)
+
+  pub contained-any : (xs : List X) (x : X) → Contains xs x → P x → AnyOf P xs
+  contained-any xs x has p = at_index xs x has.0 has.1 has.2 p

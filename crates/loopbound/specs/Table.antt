@@ -179,3 +179,11 @@ Explains loops label side w s = (s.to ≡ w) × Meets loops label side s × Turn
 -- a step turns a loop and meets its turn
 abbrev pub ExplainsTurn : List TimedLoop → Labels → Side → Loop → Step → Type 0
 ExplainsTurn loops label side l s = Meets loops label side s × (move l s.from s.to ≡ Turn)
+
+-- a word that has a label is the entry with 0, or a step explains it
+abbrev pub WordExplained : List Step → List TimedLoop → Labels → ℕ → Side → ℕ → Type 0
+WordExplained steps loops label entry side w =
+    IsSome (label w) → ((w ≡ entry) × (side_of side (label w) ≡ 0)) ⊎ AnyOf (Explains loops label side w) steps
+
+abbrev pub LoopExplained : List Step → List TimedLoop → Labels → Side → TimedLoop → Type 0
+LoopExplained steps loops label side l = IsSome l.turn → AnyOf (ExplainsTurn loops label side l.shape) steps

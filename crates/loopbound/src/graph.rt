@@ -1,6 +1,6 @@
 //! Steps between words, and the loops of the words.
 
-ghost use Rattle.std.specs.Prelude.{◌≡◌};
+ghost use Rattle.std.specs.Prelude.{◌≡◌, ◌+◌, ◌<◌, ◌^◌};
 ghost use Rattle.loopbound.specs.Loops.{holds, move};
 ghost use Rattle.loopbound.specs.Path.{at};
 ghost use Rattle.loopbound.specs.Table.{side_of};
@@ -54,6 +54,19 @@ pub struct TimedLoop {
 }
 
 impl Bounds {
+    /// Of a call: that of the called function, and so many cycles beside it.
+    pub fn with(self, cycles: u32) -> Bounds
+        requires least { self.least + cycles < 2 ^ 32 }
+        requires most { self.most + cycles < 2 ^ 32 }
+        ensures least { result.least ≡ self.least + cycles }
+        ensures most { result.most ≡ self.most + cycles }
+    {
+        Bounds {
+            least: self.least + cycles,
+            most: self.most + cycles,
+        }
+    }
+
     pub fn at(self, side: Side) -> u32
         ensures { result ≡ at side self }
     {

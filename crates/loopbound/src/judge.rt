@@ -1,11 +1,11 @@
 //! Whether a table of bounds fits and is tight.
 
-ghost use Rattle.std.specs.Prelude.{◌≡◌, ◌+◌, ◌≤◌, ◌↔◌, ◌⊎◌, IsTrue, IsSome, Contains, Some};
+ghost use Rattle.std.specs.Prelude.{◌≡◌, ◌+◌, ◌<◌, ◌≤◌, ◌↔◌, ℕ, IsTrue, IsSome, Contains, length};
 ghost use Rattle.std.specs.List.{AllByRecursion};
 ghost use Rattle.loopbound.specs.Loops.{move};
 ghost use Rattle.loopbound.specs.Path.{at};
 ghost use Rattle.loopbound.specs.Table.{side_of, gains, dues, label_in, KeepsBounds, FitsStep, Fits};
-ghost use Rattle.loopbound.specs.Table.{Meets, Explains, ExplainsTurn, AnyOf};
+ghost use Rattle.loopbound.specs.Table.{Meets, Explains, ExplainsTurn, WordExplained, LoopExplained, AnyOf, Tight};
 
 use crate::graph::{Bounds, Loop, Move, Side, Step, TimedLoop, side_of};
 use crate::sums::{can_go, dues, gains, have_turns, turns_none};
@@ -14,7 +14,13 @@ use crate::sums::{can_go, dues, gains, have_turns, turns_none};
 pub fn label_of(labels: &[Option<Bounds>], word: u32) -> Option<Bounds>
     ensures { result ≡ label_in labels.now word }
 {
-    match labels.get(word as usize) {
+    label_at(labels, word as usize)
+}
+
+fn label_at(labels: &[Option<Bounds>], word: usize) -> Option<Bounds>
+    ensures { result ≡ label_in labels.now word }
+{
+    match labels.get(word) {
         Some(label) => *label,
         None => None,
     }
@@ -152,4 +158,89 @@ fn any_explains_turn(
         }
         None => false,
     }
+}
+
+fn word_explained(
+    side: Side,
+    word: usize,
+    steps: &[Step],
+    loops: &[TimedLoop],
+    labels: &[Option<Bounds>],
+    entry: u32,
+) -> bool
+    ensures { IsTrue result ↔ WordExplained steps.now loops.now (label_in labels.now) entry side word }
+{
+    let label = label_at(labels, word);
+    if label.is_none() {
+        return true;
+    }
+    if word == entry as usize && side_of(side, label) == 0 {
+        return true;
+    }
+    any_explains(side, word, steps, loops, labels)
+}
+
+fn words_explained(
+    side: Side,
+    steps: &[Step],
+    loops: &[TimedLoop],
+    labels: &[Option<Bounds>],
+    entry: u32,
+) -> bool
+    ensures { IsTrue result
+        ↔ ((w : ℕ) → w < length labels.now → WordExplained steps.now loops.now (label_in labels.now) entry side w) }
+{
+    for word in 0..labels.len() {
+        if !word_explained(side, word, steps, loops, labels, entry) {
+            return false;
+        }
+    }
+    true
+}
+
+fn loop_explained(
+    side: Side,
+    l: &TimedLoop,
+    steps: &[Step],
+    loops: &[TimedLoop],
+    labels: &[Option<Bounds>],
+) -> bool
+    ensures { IsTrue result ↔ LoopExplained steps.now loops.now (label_in labels.now) side l.now }
+{
+    if l.turn.is_none() {
+        return true;
+    }
+    any_explains_turn(side, &l.shape, steps, loops, labels)
+}
+
+fn loops_explained(
+    side: Side,
+    these: &[TimedLoop],
+    steps: &[Step],
+    loops: &[TimedLoop],
+    labels: &[Option<Bounds>],
+) -> bool
+    ensures { IsTrue result ↔ AllByRecursion (LoopExplained steps.now loops.now (label_in labels.now) side) these.now }
+{
+    match these.split_first() {
+        Some((l, rest)) => {
+            loop_explained(side, l, steps, loops, labels)
+                && loops_explained(side, rest, steps, loops, labels)
+        }
+        None => true,
+    }
+}
+
+/// Each bound on one side is met by a step that comes to its word, or turns its loop.
+pub fn tight(
+    side: Side,
+    steps: &[Step],
+    loops: &[TimedLoop],
+    labels: &[Option<Bounds>],
+    entry: u32,
+) -> bool
+    ensures { IsTrue result ↔ Tight (Contains steps.now) loops.now (label_in labels.now) entry side }
+{
+    words_explained(side, steps, loops, labels, entry)
+        && loops_explained(side, loops, steps, loops, labels)
 }

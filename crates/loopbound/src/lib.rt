@@ -7,7 +7,7 @@ mod laws;
 mod sums;
 
 pub use graph::{Bounds, Loop, Move, Side, Step, TimedLoop};
-pub use judge::{fits, keeps_bounds, label_of, meets};
+pub use judge::{fits, keeps_bounds, label_of, meets, tight};
 pub use laws::{exactness, soundness};
 pub use sums::{can_go, dues, gains, have_turns, turns_none};
 
