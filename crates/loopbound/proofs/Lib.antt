@@ -1,0 +1,4 @@
+pub mod EachLemmas
+pub mod SoundLemmas
+pub mod ExactLemmas
+pub mod TightLemmas
