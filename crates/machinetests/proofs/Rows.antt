@@ -9,8 +9,9 @@ use Rattle.prutrace.specs.declared.event.Event.TheVariants as event
 use Rattle.prutrace.specs.declared.event.Place.TheVariants.{Addr, Reg30, Reg31, Pad}
 use Rattle.isa.specs.Decoded.{decoded, inst_at as row_inst, alu_at, single_at, branch_at, jump_at, memory_at, access_from}
 use Rattle.isa.specs.Image.{Contents}
-use Rattle.corestep.specs.Compute.{leftmost_below}
+use Rattle.corestep.specs.Compute.{leftmost, leftmost_below}
 use Rattle.corestep.specs.Fields.{register}
+use Rattle.corestep.specs.Pieces.{pieces, piece}
 use Rattle.corestep.specs.Step.{Stepped, istep, stepped}
 
 abbrev one_word : ℕ → Contents
@@ -163,3 +164,12 @@ shown =
 shown_are : map with_events shown ≡ shown
 unfolding istep decoded row_inst alu_at single_at branch_at jump_at memory_at access_from leftmost_below
 shown_are = refl
+
+-- ---- what these registers don't reach: addresses that wrap, and a number without the bit
+
+pieces_wrap : pieces 0xFFFFFFFE (1 ∷ 2 ∷ 3 ∷ 4 ∷ 5 ∷ 6 ∷ []) ≡ piece 0xFFFFFFFE B4 0x04030201 ∷ piece 2 B2 0x0605 ∷ []
+pieces_wrap = refl
+
+no_bit : leftmost 0xFFFFFFFF 2 ≡ 32
+unfolding leftmost_below
+no_bit = refl

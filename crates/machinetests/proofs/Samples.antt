@@ -95,13 +95,13 @@ abbrev updates : List Run
 updates =
     -- no wait
     both One update update no_script (reads 2 (Addr 0x10000) 0 ∷ writes 5 (Addr 0x10000) 1 ∷ halts 6)
-        (reads 2 (Addr 0x10000) 0 ∷ writes 5 (Addr 0x10000) 1 ∷ halts 6) 4 4
+    (reads 2 (Addr 0x10000) 0 ∷ writes 5 (Addr 0x10000) 1 ∷ halts 6) 4 4
     -- core 1 waits at its load
     ∷ both One update update (waits [] (10 ∷ [])) (reads 2 (Addr 0x10000) 0 ∷ writes 5 (Addr 0x10000) 1 ∷ halts 6)
-        (reads 12 (Addr 0x10000) 1 ∷ writes 15 (Addr 0x10000) 2 ∷ halts 16) 4 4
+    (reads 12 (Addr 0x10000) 1 ∷ writes 15 (Addr 0x10000) 2 ∷ halts 16) 4 4
     -- the second table
     ∷ both Two update update no_script (reads 3 (Addr 0x10000) 0 ∷ writes 7 (Addr 0x10000) 1 ∷ halts 8)
-        (reads 3 (Addr 0x10000) 0 ∷ writes 7 (Addr 0x10000) 1 ∷ halts 8) 4 4
+    (reads 3 (Addr 0x10000) 0 ∷ writes 7 (Addr 0x10000) 1 ∷ halts 8) 4 4
     ∷ []
 
 updates_show : map done updates ≡ updates
@@ -134,21 +134,21 @@ acts =
     alone One (0x0100FFE2 ∷ 0x2A000000 ∷ []) (script_of (act 0 (Pins 0 0xBEEF) ∷ act 1 (Pins 0 0) ∷ [])) (reads 0 Reg31 0xBEEF ∷ halts 1) 2
     -- the pins of the other core
     ∷ alone One (0x0100FFE2 ∷ 0x2A000000 ∷ [])
-        (script_of (act 0 (Pins 1 0xBEEF) ∷ act 5 (Start 0) ∷ act 9 (Start 0) ∷ [])) (reads 5 Reg31 0 ∷ halts 6) 2
+    (script_of (act 0 (Pins 1 0xBEEF) ∷ act 5 (Start 0) ∷ act 9 (Start 0) ∷ [])) (reads 5 Reg31 0 ∷ halts 6) 2
     -- LDI R3, 0x1e00 · LBBO R2, R3, 0, 4 · HALT, in the cycle of the access
     ∷ alone One (0x241E00E3 ∷ 0xF1000362 ∷ 0x2A000000 ∷ []) (script_of (act 3 (Poke 0x1E00 B4 42) ∷ []))
-        (reads 3 (Addr 0x1E00) 42 ∷ halts 4) 3
+    (reads 3 (Addr 0x1E00) 42 ∷ halts 4) 3
     -- one cycle later
     ∷ alone One (0x241E00E3 ∷ 0xF1000362 ∷ 0x2A000000 ∷ []) (script_of (act 4 (Poke 0x1E00 B4 42) ∷ []))
-        (reads 3 (Addr 0x1E00) 0 ∷ halts 4) 3
+    (reads 3 (Addr 0x1E00) 0 ∷ halts 4) 3
     -- LDI R3, 0x3e00: the other core's window
     ∷ alone One (0x243E00E3 ∷ 0xF1000362 ∷ 0x2A000000 ∷ []) (script_of (act 0 (Poke 0x3E02 B2 0x1234) ∷ []))
-        (reads 3 (Addr 0x3E00) 0x12340000 ∷ halts 4) 3
+    (reads 3 (Addr 0x3E00) 0x12340000 ∷ halts 4) 3
     -- LBCO R2, C28, 0, 4: the shared RAM
     ∷ alone One (0x91001C62 ∷ 0x2A000000 ∷ []) (script_of (act 0 (Poke 0x10001 B1 0xFF) ∷ [])) (reads 2 (Addr 0x10000) 0xFF00 ∷ halts 3) 2
     -- LDI R3.w2, 8: outside
     ∷ alone One (0x240008C3 ∷ 0xF1000362 ∷ 0x2A000000 ∷ []) (script_of (act 0 (Poke 0x80003 B1 0x80) ∷ []))
-        (reads 23 (Addr 0x80000) 0x80000000 ∷ halts 24) 3
+    (reads 23 (Addr 0x80000) 0x80000000 ∷ halts 24) 3
     ∷ []
 
 acts_show : map done acts ≡ acts
@@ -161,25 +161,25 @@ abbrev edges : List Run
 edges =
     -- the own window
     alone One (0x241FFEE3 ∷ 0x240000C3 ∷ 0x245678E2 ∷ 0x241234C2 ∷ 0xE1000362 ∷ 0xF1000362 ∷ 0x2A000000 ∷ [])
-        no_script (writes 5 (Addr 0x1FFE) 0x12345678 ∷ reads 8 (Addr 0x1FFE) 0x5678 ∷ halts 9) 7
+    no_script (writes 5 (Addr 0x1FFE) 0x12345678 ∷ reads 8 (Addr 0x1FFE) 0x5678 ∷ halts 9) 7
     -- the other core's window
     ∷ alone One (0x243FFEE3 ∷ 0x240000C3 ∷ 0x245678E2 ∷ 0x241234C2 ∷ 0xE1000362 ∷ 0xF1000362 ∷ 0x2A000000 ∷ [])
-        no_script (writes 5 (Addr 0x3FFE) 0x12345678 ∷ reads 8 (Addr 0x3FFE) 0x5678 ∷ halts 9) 7
+    no_script (writes 5 (Addr 0x3FFE) 0x12345678 ∷ reads 8 (Addr 0x3FFE) 0x5678 ∷ halts 9) 7
     -- the shared RAM
     ∷ alone One (0x242FFEE3 ∷ 0x240001C3 ∷ 0x245678E2 ∷ 0x241234C2 ∷ 0xE1000362 ∷ 0xF1000362 ∷ 0x2A000000 ∷ [])
-        no_script (writes 5 (Addr 0x12FFE) 0x12345678 ∷ reads 8 (Addr 0x12FFE) 0x5678 ∷ halts 9) 7
+    no_script (writes 5 (Addr 0x12FFE) 0x12345678 ∷ reads 8 (Addr 0x12FFE) 0x5678 ∷ halts 9) 7
     -- outside: a byte
     ∷ alone Two (0x24FFFFE3 ∷ 0x240008C3 ∷ 0x245678E2 ∷ 0x241234C2 ∷ 0xE1000362 ∷ 0x2A000000 ∷ []) no_script
-        (writes 46 (Addr 0x8FFFF) 0x12345678 ∷ halts 47) 6
+    (writes 46 (Addr 0x8FFFF) 0x12345678 ∷ halts 47) 6
     -- the configuration registers
     ∷ alone One (0x246000E3 ∷ 0x240002C3 ∷ 0x245678E2 ∷ 0x241234C2 ∷ 0xE1000362 ∷ 0xF1000362 ∷ 0x2A000000 ∷ [])
-        no_script (writes 5 (Addr 0x26000) 0x12345678 ∷ reads 8 (Addr 0x26000) 0 ∷ halts 9) 7
+    no_script (writes 5 (Addr 0x26000) 0x12345678 ∷ reads 8 (Addr 0x26000) 0 ∷ halts 9) 7
     -- an address at which nothing stands
     ∷ alone One (0x245000E3 ∷ 0x240000C3 ∷ 0x245678E2 ∷ 0x241234C2 ∷ 0xE1000362 ∷ 0xF1000362 ∷ 0x2A000000 ∷ [])
-        no_script (writes 5 (Addr 0x5000) 0x12345678 ∷ reads 8 (Addr 0x5000) 0 ∷ halts 9) 7
+    no_script (writes 5 (Addr 0x5000) 0x12345678 ∷ reads 8 (Addr 0x5000) 0 ∷ halts 9) 7
     -- one piece of the interrupt controller that is not aligned
     ∷ alone One (0x240011E3 ∷ 0x240002C3 ∷ 0x245678E2 ∷ 0x241234C2 ∷ 0xE1000362 ∷ 0xF1000362 ∷ 0x2A000000 ∷ [])
-        no_script (writes 5 (Addr 0x20011) 0x12345678 ∷ reads 8 (Addr 0x20011) 0 ∷ halts 9) 7
+    no_script (writes 5 (Addr 0x20011) 0x12345678 ∷ reads 8 (Addr 0x20011) 0 ∷ halts 9) 7
     -- an address at which nothing stands waits as the shared side
     ∷ alone One (0x245000E3 ∷ 0xE1000362 ∷ 0x2A000000 ∷ []) (waits (3 ∷ []) []) (writes 5 (Addr 0x5000) 0 ∷ halts 6) 3
     ∷ []
@@ -194,19 +194,19 @@ abbrev interrupts : List Run
 interrupts =
     -- an event of the script, enabled with host 0, as bit 30
     alone One
-        (0x0101E2E2 ∷ 0x81100062 ∷ 0x240014E2 ∷ 0x81280062 ∷ 0x240000E2 ∷ 0x81340062 ∷ 0x0100FFE4 ∷ 0x0100FFE4 ∷ 0x2A000000 ∷ [])
-        (script_of (act 10 (Signal 20) ∷ []))
-        (writes 2 (Addr 0x20010) 1 ∷ writes 5 (Addr 0x20028) 20 ∷ writes 8 (Addr 0x20034) 0 ∷ reads 9 Reg31 0
-        ∷ reads 10 Reg31 0x40000000 ∷ halts 11)
-        9
+    (0x0101E2E2 ∷ 0x81100062 ∷ 0x240014E2 ∷ 0x81280062 ∷ 0x240000E2 ∷ 0x81340062 ∷ 0x0100FFE4 ∷ 0x0100FFE4 ∷ 0x2A000000 ∷ [])
+    (script_of (act 10 (Signal 20) ∷ []))
+    (writes 2 (Addr 0x20010) 1 ∷ writes 5 (Addr 0x20028) 20 ∷ writes 8 (Addr 0x20034) 0 ∷ reads 9 Reg31 0
+    ∷ reads 10 Reg31 0x40000000 ∷ halts 11)
+    9
     -- an event that a write of R31 signals, its channel led to host 1, as bit 31
     ∷ alone One
-        (0x240800E3 ∷ 0x240002C3 ∷ 0x0101E2E2 ∷ 0xE1000362 ∷ 0x81340062 ∷ 0x81100062 ∷ 0x240014E2 ∷ 0x81280062 ∷ 0x240024FF
-        ∷ 0x0100FFE4 ∷ 0x2A000000 ∷ [])
-        no_script
-        (writes 4 (Addr 0x20800) 1 ∷ writes 6 (Addr 0x20034) 1 ∷ writes 8 (Addr 0x20010) 1 ∷ writes 11 (Addr 0x20028) 20
-        ∷ writes 12 Reg31 0x24 ∷ reads 13 Reg31 0x80000000 ∷ halts 14)
-        11
+    (0x240800E3 ∷ 0x240002C3 ∷ 0x0101E2E2 ∷ 0xE1000362 ∷ 0x81340062 ∷ 0x81100062 ∷ 0x240014E2 ∷ 0x81280062 ∷ 0x240024FF
+    ∷ 0x0100FFE4 ∷ 0x2A000000 ∷ [])
+    no_script
+    (writes 4 (Addr 0x20800) 1 ∷ writes 6 (Addr 0x20034) 1 ∷ writes 8 (Addr 0x20010) 1 ∷ writes 11 (Addr 0x20028) 20
+    ∷ writes 12 Reg31 0x24 ∷ reads 13 Reg31 0x80000000 ∷ halts 14)
+    11
     ∷ []
 
 interrupts_show : map done interrupts ≡ interrupts
