@@ -1,0 +1,10 @@
+//! Tidying operations: values that nobody reads are no longer computed.
+#![tactic(auto)]
+
+mod idle;
+mod laws;
+mod marks;
+mod reads;
+
+pub use idle::remove_idle;
+pub use laws::{better_laws, idle_laws};
