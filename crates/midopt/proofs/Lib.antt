@@ -6,3 +6,5 @@ pub mod Runs
 pub mod Lists
 pub mod Whole
 pub mod Removed
+pub mod MarkLemmas
+pub mod SweepLemmas

@@ -1,6 +1,6 @@
 //! Values that nobody reads.
 
-ghost use Rattle.std.specs.Prelude.{◌≡◌, ◌<◌, true, false, length, IsTrue, OnOk};
+ghost use Rattle.std.specs.Prelude.{◌≡◌, ◌<◌, true, false, length, OnOk};
 ghost use Rattle.midcode.specs.Function.{kinds, IsValidFunction};
 ghost use Rattle.midopt.specs.Better.{IsBetterFunction};
 ghost use Rattle.midopt.specs.Tidy.{HasNoIdle};
@@ -14,14 +14,16 @@ use std::alloc::Global;
 
 /// Takes out what only computes a value for a register that isn't marked. Answers whether there was such an operation.
 fn sweep(f: &mut MidFn, marks: &[bool]) -> bool
-    requires { marks.now ≡ marks_of (kinds f.old) (length f.old.registers) }
+    requires marks { marks.now ≡ marks_of (kinds f.old) (length f.old.registers) }
+    requires valid { IsValidFunction f.old }
     ensures better { IsBetterFunction f.old f.new }
     ensures some { result ≡ true → length f.new.nodes < length f.old.nodes }
     ensures none { result ≡ false → HasNoIdle (kinds f.new) }
 {
     let mut found = false;
     let mut at = f.first();
-    while let Some(node) = at {
+    for _ in 0..f.op_count() {
+        let Some(node) = at else { break };
         at = f.next(node);
         if is_unmarked(marks, register_of_value(&f.get(node).kind)) {
             f.remove(node);

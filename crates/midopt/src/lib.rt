@@ -5,6 +5,8 @@ mod idle;
 mod laws;
 mod marks;
 mod reads;
+#[cfg(test)]
+mod tests;
 
 pub use idle::remove_idle;
 pub use laws::{better_laws, idle_laws};

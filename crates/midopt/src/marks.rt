@@ -2,7 +2,7 @@
 
 ghost use Rattle.std.specs.Prelude.{◌≡◌, [], ◌∷◌, length, IfOk};
 ghost use Rattle.midcode.specs.Operation.{listed};
-ghost use Rattle.midcode.specs.Function.{kinds};
+ghost use Rattle.midcode.specs.Function.{kinds, IsValidFunction};
 ghost use Rattle.midopt.specs.Marks.{marked, marks_of, is_unmarked};
 
 use crate::reads::registers_read;
@@ -13,8 +13,9 @@ use std::alloc::Global;
 fn mark_one(marks: &mut [bool], r: VReg)
     ensures { marks.new ≡ marked (r ∷ []) marks.old }
 {
-    if let Some(mark) = marks.get_mut(r.0 as usize) {
-        *mark = true;
+    let index = r.0 as usize;
+    if index < marks.len() {
+        marks[index] = true;
     }
 }
 
@@ -28,11 +29,16 @@ fn mark_all(marks: &mut [bool], registers: &Registers)
 
 /// Marks the registers that the function's operations read.
 pub fn find_marks(alloc: Global, f: &MidFn) -> Result<Vec<bool>, Memory>
-    ensures { IfOk result (λ v. v.items ≡ marks_of (kinds f.now) (length f.now.registers)) }
+    ensures marks { IfOk result (λ v. v.items ≡ marks_of (kinds f.now) (length f.now.registers)) }
+
+    // The function is valid.
+    ensures valid { IsValidFunction f.now }
 {
+    let count = f.ops().count();
     let mut marks = vec![in alloc; false; f.registers().len()]?;
     let mut at = f.first();
-    while let Some(node) = at {
+    for _ in 0..count {
+        let Some(node) = at else { break };
         mark_all(marks.as_mut_slice(), &registers_read(&f.get(node).kind));
         at = f.next(node);
     }
