@@ -1,8 +1,7 @@
 -- Two runs that are alike: one of them is wild, or both come to the same.
-use Rattle.std.proofs.Common.{◌≡◌, ℕ, ◌≤◌, ◌⊎◌, inl, inr, Bool, true, false, refl, sym, subst}
-use Rattle.behaviour.specs.declared.stop.Stop.{Stop}
+use Rattle.std.proofs.Common.{◌≡◌, ◌≤◌, ◌⊎◌, inl, inr, Bool, true, false, refl, sym, subst}
 use Rattle.behaviour.specs.Ran.{Ran, Done, Stopped, and_then}
-use Rattle.midcode.specs.Machine.{Wild, State, Does, in_turn, sure}
+use Rattle.midcode.specs.Machine.{Wild, State, sure}
 use Rattle.midopt.specs.Better.{is_wild}
 
 -- what is shown of a state

@@ -1,11 +1,12 @@
 -- Operations that two programs have in common, on states that are related: what they do is alike.
-use Rattle.std.proofs.Common.{◌≡◌, ℕ, zero, suc, ◌+◌, ◌%◌, ◌^◌, ◌≤◌, ◌==◌, ◌⊎◌, inl, inr, Bool, true, false, not, ◌&&◌, List, [], ◌∷◌, ◌++◌}
-use Rattle.std.proofs.Common.{length, Option, Some, None, replicate, option_to_list, ◌||◌, refl, sym, subst, ap, ◌∙◌, slice_index, if◌then◌else◌, nat_lt}
+use Rattle.std.proofs.Common.{◌≡◌, ℕ, ◌+◌, ◌%◌, ◌^◌, ◌≤◌, ◌==◌, inl, inr, Bool, true, false, not, List, [], ◌∷◌, ◌++◌}
+use Rattle.std.proofs.Common.{length, Option, Some, None, replicate, option_to_list, ◌||◌, refl, sym, subst, ap, ◌∙◌}
+use Rattle.std.proofs.Common.{slice_index, if◌then◌else◌, nat_lt}
 use Rattle.std.specs.List.{list_all}
 use Rattle.std.proofs.lemmas.Bool.{and_parts, not-true}
 use Rattle.std.proofs.lemmas.List.Folds.{list_all-append}
 use Rattle.behaviour.specs.declared.stop.Stop.TheVariants.{Ended}
-use Rattle.behaviour.specs.Ran.{Ran, Done, Stopped, and_then}
+use Rattle.behaviour.specs.Ran.{Done, Stopped}
 use Rattle.prunum.specs.Bytes.{little_bytes, little_number}
 use Rattle.prunum.specs.Number.{wrap, wrap_signed, sext}
 use Rattle.prunum.specs.Width.{byte_count}
@@ -31,13 +32,14 @@ use Rattle.midcode.specs.Operation.{reads, base_reads, volatile_reads, operand_r
 use Rattle.midcode.specs.Value.{unary_value, binary_value}
 use Rattle.midcode.specs.Function.{size_at}
 use Rattle.midcode.specs.Program.{Program}
-use Rattle.midcode.specs.Machine.{Wild, Misaligned, OutsideWindows, NotOwn, OutsideObjects, MoreTurns, FewerTurns, Frame, Caller, State, Does}
-use Rattle.midcode.specs.Machine.{giving, done, with_state, in_turn, sure, known, get, with_register, put, at_place, onwards, are_in_objects}
+use Rattle.midcode.specs.Machine.{Misaligned, OutsideWindows, NotOwn, OutsideObjects, MoreTurns, FewerTurns, Frame, Caller, State, Does}
+use Rattle.midcode.specs.Machine.{giving, with_state, in_turn, sure, known, get, with_register, onwards, are_in_objects}
 use Rattle.midcode.specs.Machine.{bytes_at, stored, load, store, show, read_from, read, allowed}
 use Rattle.midcode.specs.Meaning.{function_at, kinds_of_function, registers_of, running, width_of_size, width_of, set, value, plain_address}
-use Rattle.midcode.specs.Meaning.{volatile_address, core_place, is_met, standing_at, go_to, with_taken, turns_taken, count_turn, taking, passing}
-use Rattle.midcode.specs.Meaning.{branch, get_all, first_frame, call, get_option, hand_over, halt, back_to, return_to, effect}
-use Rattle.midopt.proofs.Alike.{Shown, Same, Alike, then-alike, sure-alike}
+use Rattle.midcode.specs.Meaning.{volatile_address, core_place, is_met, standing_at}
+use Rattle.midcode.specs.Meaning.{go_to, with_taken, turns_taken, count_turn, taking, passing}
+use Rattle.midcode.specs.Meaning.{branch, get_all, call, get_option, hand_over, halt, back_to, return_to, effect}
+use Rattle.midopt.proofs.Alike.{Shown, Alike, then-alike, sure-alike}
 
 -- Where the operations of the old program stand in the new one, by function and place; which have no counterpart; and which registers
 -- of a function are read by no operation.
@@ -149,8 +151,11 @@ module _ (q p : Program) (a : List ℕ) (e : Places) (edit : IsEdit q p e) where
 
     pub set-alike : (r : VReg) (v v' : ℕ) (s t : State) → v' ≡ v → At s t → Alike At (set q r v s) (set p r v' t)
     set-alike r v v' s t is at =
-        inr (refl, put-at r (wrap (width_of q s r) v) (wrap (width_of p t r) v') s t
-        (ap (λ w. wrap w v') (width-same r s t at) ∙ ap (wrap (width_of q s r)) is) at)
+        inr (
+          refl,
+          put-at r (wrap (width_of q s r) v) (wrap (width_of p t r) v') s t
+              (ap (λ w. wrap w v') (width-same r s t at) ∙ ap (wrap (width_of q s r)) is) at,
+        )
 
     -- ---- places
 
@@ -174,8 +179,15 @@ module _ (q p : Program) (a : List ℕ) (e : Places) (edit : IsEdit q p e) where
 
     pub onwards-alike : (s t : State) → At s t → Alike (Like e) (onwards s) (onwards t)
     onwards-alike s t at =
-        inr (refl, (f, s.frame.place + 1, placed-at (s.frame.place + 1) (t.frame.place + 1) s t at
-        (ap (λ n. n + 1) at.frame.place ∙ sym (edit.next f x kept) ∙ ap (λ n. e.moved f (n + 1)) (sym at.frame.old_place))))
+        inr (
+          refl,
+          (
+            f,
+            s.frame.place + 1,
+            placed-at (s.frame.place + 1) (t.frame.place + 1) s t at
+                (ap (λ n. n + 1) at.frame.place ∙ sym (edit.next f x kept) ∙ ap (λ n. e.moved f (n + 1)) (sym at.frame.old_place)),
+          ),
+        )
 
     pub set-on : (r : VReg) (v v' : ℕ) (s t : State) → v' ≡ v → At s t
         → Alike (Like e) (in_turn (set q r v) (λ _. onwards) s) (in_turn (set p r v') (λ _. onwards) t)
@@ -189,8 +201,15 @@ module _ (q p : Program) (a : List ℕ) (e : Places) (edit : IsEdit q p e) where
 
     go-alike : (l : Label) (s t : State) → At s t → Alike (Like e) (go_to q l s) (go_to p l t)
     go-alike l s t at =
-        inr (refl, (f, standing_at (running q s) l.0, placed-at (standing_at (running q s) l.0) (standing_at (running p t) l.0) s t at
-        (running-same s t at l.0)))
+        inr (
+          refl,
+          (
+            f,
+            standing_at (running q s) l.0,
+            placed-at (standing_at (running q s) l.0) (standing_at (running p t) l.0) s t at
+                (running-same s t at l.0),
+          ),
+        )
 
     -- ---- memory
 
@@ -215,26 +234,32 @@ module _ (q p : Program) (a : List ℕ) (e : Places) (edit : IsEdit q p e) where
         (λ _ s. Done tt (record s { memory = stored s.memory from bytes }))
         (λ _ s. Done tt (record s { memory = stored s.memory from bytes }))
         (sure-alike At OutsideObjects _ _ s t (ap (λ os. are_in_objects a os from (length bytes)) edit.objects) at)
-        (λ _ s t at. inr (refl, record {
-          frame = at.frame;
-          callers = at.callers;
-          memory = ap (λ m. stored m from bytes) at.memory;
-          values = at.values;
-          events = at.events;
-          charge = at.charge;
-        }))
+        (λ _ s t at. inr (
+          refl,
+          record {
+            frame = at.frame;
+            callers = at.callers;
+            memory = ap (λ m. stored m from bytes) at.memory;
+            values = at.values;
+            events = at.events;
+            charge = at.charge;
+          },
+        ))
 
     -- ---- events
 
     show-alike : (v : Event) (s t : State) → At s t → Alike At (show v s) (show v t)
-    show-alike v s t at = inr (refl, record {
-      frame = at.frame;
-      callers = at.callers;
-      memory = at.memory;
-      values = at.values;
-      events = ap (λ es. es ++ v ∷ []) at.events;
-      charge = at.charge;
-    })
+    show-alike v s t at = inr (
+      refl,
+      record {
+        frame = at.frame;
+        callers = at.callers;
+        memory = at.memory;
+        values = at.values;
+        events = ap (λ es. es ++ v ∷ []) at.events;
+        charge = at.charge;
+      },
+    )
 
     after-show : {B : Type 0} (R : State → State → Type 0) (v : Event) (g h : Does B)
         → ((s t : State) → At s t → Alike R (g s) (h t))
@@ -248,16 +273,20 @@ module _ (q p : Program) (a : List ℕ) (e : Places) (edit : IsEdit q p e) where
       where
         here : (vs : List ℕ) → Alike At (read_from pl w vs s) (read_from pl w vs t)
         here [] = inr (refl, shown-of e f x s t at)
-        here (v ∷ vs) = inr (refl, record {
-          frame = at.frame;
-          callers = at.callers;
-          memory = at.memory;
-          values = refl;
-          events = ap (λ es. es ++ event.Read pl w (wrap w v) ∷ []) at.events;
-          charge = at.charge;
-        })
+        here (v ∷ vs) = inr (
+          refl,
+          record {
+            frame = at.frame;
+            callers = at.callers;
+            memory = at.memory;
+            values = refl;
+            events = ap (λ es. es ++ event.Read pl w (wrap w v) ∷ []) at.events;
+            charge = at.charge;
+          },
+        )
 
-    allowed-alike : (own : Bool) (w w' : Width) (to : ℕ) (s t : State) → w' ≡ w → At s t → Alike At (allowed own w to s) (allowed own w' to t)
+    allowed-alike : (own : Bool) (w w' : Width) (to : ℕ) (s t : State) → w' ≡ w → At s t
+        → Alike At (allowed own w to s) (allowed own w' to t)
     allowed-alike own w w' to s t is at =
         subst (λ z. Alike At (allowed own w to s) (allowed own z to t)) (sym is)
         (then-alike At At (sure Misaligned (to % byte_count w == 0) s) (sure Misaligned (to % byte_count w == 0) t) _ _
@@ -313,9 +342,11 @@ module _ (q p : Program) (a : List ℕ) (e : Places) (edit : IsEdit q p e) where
         (sure-alike At FewerTurns _ _ s t (ap (λ m. m + 1 == n) (taken-same s t at)) at)
         (λ _ s' t' at'. inr (refl, counted-at 0 0 s' t' refl at'))
 
-    branch-alike : (turns : Option ℕ) (l : Label) (b : Bool) (s t : State) → At s t → Alike (Like e) (branch q turns l b s) (branch p turns l b t)
+    branch-alike : (turns : Option ℕ) (l : Label) (b : Bool) (s t : State) → At s t
+        → Alike (Like e) (branch q turns l b s) (branch p turns l b t)
     branch-alike turns l true s t at =
-        then-alike At (Like e) (taking turns s) (taking turns t) (λ _. go_to q l) (λ _. go_to p l) (taking-alike turns s t at) (λ _. go-alike l)
+        then-alike At (Like e) (taking turns s) (taking turns t) (λ _. go_to q l) (λ _. go_to p l)
+        (taking-alike turns s t at) (λ _. go-alike l)
     branch-alike turns l false s t at =
         then-alike At (Like e) (passing turns s) (passing turns t) (λ _. onwards) (λ _. onwards) (passing-alike turns s t at)
         (λ _. onwards-alike)
@@ -331,21 +362,28 @@ module _ (q p : Program) (a : List ℕ) (e : Places) (edit : IsEdit q p e) where
         (get_all-alike rs parts.1 s t at) (λ vs s t at. inr (refl, at))) s t at
 
     call-alike : (n : ℕ) (vs : List ℕ) (to : Option VReg) (s t : State) → At s t → Alike (Like e) (call n vs to s) (call n vs to t)
-    call-alike n vs to s t at = inr (refl, (n, 0, record {
-      frame = record {
-        old_function = refl;
-        old_place = refl;
-        function = refl;
-        place = sym (edit.starts n);
-        registers = λ r seen. refl;
-        taken = λ y stays. refl;
-      };
-      callers = (record { function = f; place = x; frame = at.frame; to = refl; kept = kept }, at.callers);
-      memory = at.memory;
-      values = at.values;
-      events = at.events;
-      charge = at.charge;
-    }))
+    call-alike n vs to s t at = inr (
+      refl,
+      (
+        n,
+        0,
+        record {
+          frame = record {
+            old_function = refl;
+            old_place = refl;
+            function = refl;
+            place = sym (edit.starts n);
+            registers = λ r seen. refl;
+            taken = λ y stays. refl;
+          };
+          callers = (record { function = f; place = x; frame = at.frame; to = refl; kept = kept }, at.callers);
+          memory = at.memory;
+          values = at.values;
+          events = at.events;
+          charge = at.charge;
+        },
+      ),
+    )
 
     get_option-alike : (o : Option VReg) → list_all is_seen (option_to_list o) ≡ true → (s t : State) → At s t
         → Alike At (get_option o s) (get_option o t)
@@ -355,7 +393,8 @@ module _ (q p : Program) (a : List ℕ) (e : Places) (edit : IsEdit q p e) where
 
     halt-alike : (s t : State) → At s t → Alike (Like e) (halt s) (halt t)
     halt-alike s t at =
-        after-show {B = Unit {0}} (Like e) event.Halted (λ s. Stopped Ended s) (λ s. Stopped Ended s) (λ s t at. inr (refl, shown-of e f x s t at)) s t at
+        after-show {B = Unit {0}} (Like e) event.Halted (λ s. Stopped Ended s) (λ s. Stopped Ended s)
+        (λ s t at. inr (refl, shown-of e f x s t at)) s t at
 
   -- the value of a call goes to the place that waits for it
   hand-alike : (f x : ℕ) (kept : e.gone f x ≡ false) (v : Option ℕ) (to : Option VReg) (s t : State) → LikeAt e f x s t
@@ -408,7 +447,8 @@ module _ (q p : Program) (a : List ℕ) (e : Places) (edit : IsEdit q p e) where
     after-value R (operand.Register r) own g h on s t at = after-get f x kept R r (first r own) g h on s t at
     after-value R (operand.Constant n) own g h on s t at = on n s t at
 
-    after-address : {B : Type 0} (R : State → State → Type 0) (b : Base) (offset : ℕ) → list_all seen (base_reads b) ≡ true → (g h : ℕ → Does B)
+    after-address : {B : Type 0} (R : State → State → Type 0) (b : Base) (offset : ℕ) → list_all seen (base_reads b) ≡ true
+        → (g h : ℕ → Does B)
         → ((v : ℕ) (s t : State) → Here s t → Alike R (g v s) (h v t))
         → (s t : State) → Here s t → Alike R (in_turn (plain_address a b offset) g s) (in_turn (plain_address a b offset) h t)
     after-address R (base.Object object) offset own g h on s t at = on (slice_index a object + offset) s t at
@@ -440,7 +480,8 @@ module _ (q p : Program) (a : List ℕ) (e : Places) (edit : IsEdit q p e) where
     effect-alike (op.Constant to n) own s t at = set-on f x kept to n n s t refl at
     effect-alike (op.Address to object offset) own s t at = set-on f x kept to _ _ s t refl at
     effect-alike (op.Copy to from) own s t at =
-        after-get f x kept (Like e) from (first from own) (λ v. in_turn (set q to v) (λ _. onwards)) (λ v. in_turn (set p to v) (λ _. onwards))
+        after-get f x kept (Like e) from (first from own) (λ v. in_turn (set q to v) (λ _. onwards))
+        (λ v. in_turn (set p to v) (λ _. onwards))
         (λ v s t at. set-on f x kept to v v s t refl at) s t at
     effect-alike (op.Unary o to from) own s t at =
         after-get f x kept (Like e) from (first from own) (λ v. in_turn (set q to (unary_value o v)) (λ _. onwards))
@@ -534,13 +575,15 @@ module _ (q p : Program) (a : List ℕ) (e : Places) (edit : IsEdit q p e) where
     effect-alike (op.Label l) own s t at = onwards-alike f x kept s t at
     effect-alike (op.Jump l) own s t at = go-alike f x kept l s t at
     effect-alike (op.Branch left test right to turns) own s t at =
-        after-get f x kept (Like e) left (first left own) (λ v. branch q turns to (is_met test v right)) (λ v. branch p turns to (is_met test v right))
+        after-get f x kept (Like e) left (first left own) (λ v. branch q turns to (is_met test v right))
+        (λ v. branch p turns to (is_met test v right))
         (λ v. branch-alike f x kept turns to (is_met test v right)) s t at
     effect-alike (op.Mark (mark.Enter region)) own s t at =
         after-show f x kept (Like e) (event.Enter region) onwards onwards (onwards-alike f x kept) s t at
     effect-alike (op.Mark (mark.Leave region)) own s t at =
         after-show f x kept (Like e) (event.Leave region) onwards onwards (onwards-alike f x kept) s t at
     effect-alike (op.Delay n) own s t at =
-        after-show f x kept (Like e) (event.DelayIn n) (in_turn (show (event.DelayOut n)) (λ _. onwards)) (in_turn (show (event.DelayOut n)) (λ _. onwards))
+        after-show f x kept (Like e) (event.DelayIn n) (in_turn (show (event.DelayOut n)) (λ _. onwards))
+        (in_turn (show (event.DelayOut n)) (λ _. onwards))
         (after-show f x kept (Like e) (event.DelayOut n) onwards onwards (onwards-alike f x kept)) s t at
     effect-alike op.Halt own s t at = halt-alike f x kept s t at

@@ -1,7 +1,7 @@
 -- A list of operations from which one that only computes a value is taken out.
-use Rattle.std.proofs.Common.{◌≡◌, ℕ, zero, suc, ◌+◌, ◌-◌, ◌<◌, ◌≤◌, ◌==◌, ◌⊎◌, inl, inr, Bool, true, false, not, ◌&&◌, ◌||◌, List, [], ◌∷◌, ◌++◌}
-use Rattle.std.proofs.Common.{length, map, take, Option, Some, None, refl, sym, subst, ap, ◌∙◌, arith, slice_get, slice_set, if◌then◌else◌, nat_lt}
-use Rattle.std.proofs.Common.{filter, sum_by}
+use Rattle.std.proofs.Common.{◌≡◌, ℕ, zero, suc, ◌+◌, ◌-◌, ◌≤◌, ◌==◌, Bool, true, false, not, ◌&&◌, ◌||◌, List, [], ◌∷◌, ◌++◌}
+use Rattle.std.proofs.Common.{length, take, Some, refl, sym, ap, ◌∙◌, arith, slice_get, if◌then◌else◌, nat_lt}
+use Rattle.std.proofs.Common.{sum_by}
 use Rattle.std.specs.List.{list_all, list_any}
 use Rattle.std.proofs.lemmas.Bool.{and_parts, and_from, or_parts, or_from, true≢false}
 use Rattle.std.proofs.lemmas.List.Folds.{list_all-append, list_any-append}
@@ -13,7 +13,7 @@ use Rattle.midcode.specs.Operation.{is_value, is_last}
 use Rattle.midcode.specs.Function.{standing}
 use Rattle.midcode.specs.Structure.{skeleton}
 use Rattle.midcode.specs.Program.{ends_well}
-use Rattle.midcode.specs.Cost.{size, multiplies, divides}
+use Rattle.midcode.specs.Cost.{size}
 use Rattle.midcode.specs.Meaning.{standing_at}
 
 -- where a place is when the one at L is taken out
@@ -77,7 +77,8 @@ not-last _ h last = last
 -- ---- the list
 
 module _ (k : OpKind) (value : is_value k ≡ true) (back : List OpKind) where
-  pub labels-closed : (front : List OpKind) (l : ℕ) → standing_at (front ++ back) l ≡ closed (length front) (standing_at (front ++ k ∷ back) l)
+  pub labels-closed : (front : List OpKind) (l : ℕ)
+      → standing_at (front ++ back) l ≡ closed (length front) (standing_at (front ++ k ∷ back) l)
   labels-closed [] l = sym (ap (closed 0) (at-value k back l value) ∙ closed-none (standing_at back l))
   labels-closed (j ∷ front) l = at-cons j (length front) (front ++ back) (front ++ k ∷ back) l (labels-closed front l)
 

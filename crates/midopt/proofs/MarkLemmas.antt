@@ -1,19 +1,19 @@
 -- Marks on the registers that are read.
-use Rattle.std.proofs.Common.{◌≡◌, ℕ, zero, suc, ◌+◌, ◌<◌, ◌≤◌, ◌==◌, ◌⊎◌, inl, inr, Bool, true, false, not, ◌&&◌, ◌||◌, List, [], ◌∷◌, ◌++◌}
-use Rattle.std.proofs.Common.{length, Option, Some, None, refl, sym, subst, ap, ◌∙◌, arith, slice_index_or, slice_set, replicate, flat_map, nat_lt}
-use Rattle.std.proofs.Common.{drop_of_length-le, take, drop, append-nil, length-append, append_assoc, if◌then◌else◌}
+use Rattle.std.proofs.Common.{◌≡◌, ℕ, zero, suc, ◌+◌, ◌<◌, ◌≤◌, ◌==◌, Bool, true, false, not, ◌&&◌, ◌||◌, List, [], ◌∷◌, ◌++◌}
+use Rattle.std.proofs.Common.{length, Option, Some, None, refl, sym, ap, ◌∙◌, arith, slice_index_or, slice_set, replicate, flat_map}
+use Rattle.std.proofs.Common.{drop_of_length-le, take, drop, append-nil, append_assoc, if◌then◌else◌}
 use Rattle.std.specs.Prelude.{IfSome}
-use Rattle.std.specs.List.{list_all, list_any}
-use Rattle.std.proofs.lemmas.Bool.{and_parts, and_from, or_parts, ltb-true, not-true, true≢false}
+use Rattle.std.specs.List.{list_any}
+use Rattle.std.proofs.lemmas.Bool.{and_from, or_parts, ltb-true, not-true, true≢false}
 use Rattle.std.proofs.lemmas.List.{map-append, take_all}
-use Rattle.std.proofs.lemmas.List.Folds.{list_any-append, list_all-append}
+use Rattle.std.proofs.lemmas.List.Folds.{list_any-append}
 use Rattle.linkarena.specs.Lists.{first_id}
 use Rattle.prunum.specs.declared.width.Width.{Width}
 use Rattle.midcode.specs.declared.register.VReg.{VReg}
 use Rattle.midcode.specs.declared.op.Op.{Op}
 use Rattle.midcode.specs.declared.op.OpKind.{OpKind}
-use Rattle.midcode.specs.Operation.{reads, writes, is_value, label_of, target_of}
-use Rattle.midcode.specs.Function.{Function, kinds, kinds_of, fits, has, each_of, is_sized, IsValidFunction, IsNode, AtNode}
+use Rattle.midcode.specs.Operation.{reads, writes, is_value}
+use Rattle.midcode.specs.Function.{kinds_of, has, each_of, IsNode, AtNode}
 use Rattle.midopt.specs.Tidy.{is_register, are_reading, is_unread, is_idle}
 use Rattle.midopt.specs.Marks.{marked, marks_of, value_to, is_unmarked}
 
@@ -191,7 +191,8 @@ walked-next nodes count marks more node index k next w get is step there =
       come = step w.front o rest at;
       node = there;
       left = omega (arith, w.left, ap length first.2);
-      marked = is ∙ ap (λ m. marked (reads k.kind) m) w.marked ∙ ap (λ j. marked (reads j.kind) (marks_of (kinds_of w.front) count)) (get w.front o rest at) ∙
+      marked = is ∙ ap (λ m. marked (reads k.kind) m) w.marked ∙
+          ap (λ j. marked (reads j.kind) (marks_of (kinds_of w.front) count)) (get w.front o rest at) ∙
           marks-more (kinds_of w.front) o.kind count ∙
           ap (λ ks. marks_of ks count) (sym (map-append (λ n. n.1.kind) w.front ((node, o) ∷ [])));
     }

@@ -2,7 +2,7 @@
 use Rattle.std.proofs.Common.{◌≡◌, ℕ, ◌+◌, ◌%◌, ◌^◌, ◌==◌, ◌⊎◌, inl, inr, Bool, true, false, List, Option, Some, None}
 use Rattle.std.proofs.Common.{refl, sym, subst, ap, ◌∙◌, slice_index, if◌then◌else◌}
 use Rattle.std.proofs.lemmas.Bool.{eqb-true, true≢false, false_from_ne_true}
-use Rattle.behaviour.specs.Ran.{Ran, Done, Stopped, and_then}
+use Rattle.behaviour.specs.Ran.{Ran, Done, and_then}
 use Rattle.prunum.specs.Bytes.{little_number}
 use Rattle.prunum.specs.Number.{wrap, wrap_signed, sext}
 use Rattle.prunum.specs.Width.{byte_count}
@@ -18,11 +18,11 @@ use Rattle.midcode.specs.declared.op.OpKind.TheVariants as op
 use Rattle.midcode.specs.Operation.{is_value, writes}
 use Rattle.midcode.specs.Value.{unary_value, binary_value}
 use Rattle.midcode.specs.Program.{Program}
-use Rattle.midcode.specs.Machine.{Wild, OutsideObjects, State, Does, with_state, in_turn, sure, known, get, with_register, put, onwards}
+use Rattle.midcode.specs.Machine.{Wild, OutsideObjects, State, Does, in_turn, sure, known, get, with_register, onwards}
 use Rattle.midcode.specs.Machine.{are_in_objects, bytes_at, load}
 use Rattle.midcode.specs.Meaning.{width_of, set, value, plain_address, effect}
 use Rattle.midopt.specs.Better.{is_wild}
-use Rattle.midopt.proofs.Effects.{Places, FrameAt, LikeAt}
+use Rattle.midopt.proofs.Effects.{Places, LikeAt}
 
 module _ (q : Program) (a : List ℕ) (e : Places) (f x : ℕ) (skipped : e.moved f (x + 1) ≡ e.moved f x) where
   -- The operation is wild, or the old program stands before the next one and the new one need not move.
@@ -65,27 +65,31 @@ module _ (q : Program) (a : List ℕ) (e : Places) (f x : ℕ) (skipped : e.move
         false_from_ne_true (r == to) (λ same. true≢false (sym un ∙ ap (e.unread f) (sym (eqb-true r to same)) ∙ seen))
 
     pub set-quiet : (to : VReg) (v : ℕ) → e.unread f to.0 ≡ true → Quiet (in_turn (set q to v) (λ _. onwards) s) t
-    set-quiet to v un = inr (record s {
-      frame = record s.frame {
-        registers = with_register s.frame.registers to.0 (wrap (width_of q s to) v);
-        place = s.frame.place + 1;
-      };
-    }, refl, record {
-      frame = record {
-        old_function = at.frame.old_function;
-        old_place = ap (λ n. n + 1) at.frame.old_place;
-        function = at.frame.function;
-        place = at.frame.place ∙ sym skipped;
-        registers = λ r seen. at.frame.registers r seen ∙
-            ap (λ b. if b then Some (wrap (width_of q s to) v) else s.frame.registers r) (sym (other to.0 r un seen));
-        taken = at.frame.taken;
-      };
-      callers = at.callers;
-      memory = at.memory;
-      values = at.values;
-      events = at.events;
-      charge = at.charge;
-    })
+    set-quiet to v un = inr (
+      record s {
+        frame = record s.frame {
+          registers = with_register s.frame.registers to.0 (wrap (width_of q s to) v);
+          place = s.frame.place + 1;
+        };
+      },
+      refl,
+      record {
+        frame = record {
+          old_function = at.frame.old_function;
+          old_place = ap (λ n. n + 1) at.frame.old_place;
+          function = at.frame.function;
+          place = at.frame.place ∙ sym skipped;
+          registers = λ r seen. at.frame.registers r seen ∙
+              ap (λ b. if b then Some (wrap (width_of q s to) v) else s.frame.registers r) (sym (other to.0 r un seen));
+          taken = at.frame.taken;
+        };
+        callers = at.callers;
+        memory = at.memory;
+        values = at.values;
+        events = at.events;
+        charge = at.charge;
+      },
+    )
 
     -- An operation that only computes a value for a register that nobody reads.
     pub value-skipped : (k : OpKind) (to : VReg) → is_value k ≡ true → writes k ≡ Some to → e.unread f to.0 ≡ true

@@ -1,7 +1,6 @@
 -- Every program may stand for itself, and what may stand for one that may stand for a third may stand for that.
-use Rattle.std.proofs.Common.{◌≡◌, ℕ, zero, suc, ◌≤◌, ◌⊎◌, inl, inr, Bool, true, false, List, [], ◌∷◌, Option, Some, None}
+use Rattle.std.proofs.Common.{◌≡◌, ℕ, zero, suc, ◌≤◌, ◌⊎◌, inl, inr, true, List, [], ◌∷◌, Option, Some, None}
 use Rattle.std.proofs.Common.{refl, sym, subst, ap, ◌∙◌, arith, le_refl, slice_get, slice_set, sum_by}
-use Rattle.behaviour.specs.declared.stop.Stop.{Stop}
 use Rattle.behaviour.specs.Ran.{Ran, Done, Stopped}
 use Rattle.midcode.specs.Machine.{Wild}
 use Rattle.midcode.specs.Function.{Function, kinds}
@@ -131,7 +130,8 @@ better-more p q r pq qr = record {
   objects = qr.objects ∙ pq.objects;
   regions = qr.regions ∙ pq.regions;
   main = qr.main ∙ pq.main;
-  functions = λ f. both-more (slice_get p.functions f) (slice_get q.functions f) (slice_get r.functions f) (pq.functions f) (qr.functions f);
+  functions = λ f. both-more (slice_get p.functions f) (slice_get q.functions f) (slice_get r.functions f)
+      (pq.functions f) (qr.functions f);
   valid = λ h. qr.valid (pq.valid h);
   runs = λ w a values acts. run-more _ _ _ (pq.runs w a values acts) (qr.runs w a values acts);
 }

@@ -1,10 +1,10 @@
 -- A value that nobody reads is no longer computed: the function may stand for the one before.
-use Rattle.std.proofs.Common.{◌≡◌, ℕ, zero, suc, ◌+◌, ◌≢◌, ◌==◌, ◌⊎◌, inl, inr, Bool, true, false, not, ◌&&◌, ◌||◌, List, [], ◌∷◌, ◌++◌}
-use Rattle.std.proofs.Common.{length, map, take, Option, Some, None, refl, sym, subst, ap, ◌∙◌, arith, slice_get, slice_set, if◌then◌else◌, sum_by}
+use Rattle.std.proofs.Common.{◌≡◌, ℕ, zero, suc, ◌+◌, ◌==◌, Bool, true, false, not, ◌&&◌, List, [], ◌∷◌, ◌++◌}
+use Rattle.std.proofs.Common.{length, take, Option, Some, None, refl, sym, subst, ap, ◌∙◌, arith}
+use Rattle.std.proofs.Common.{slice_get, slice_set, if◌then◌else◌, sum_by}
 use Rattle.std.specs.List.{list_all, list_any}
-use Rattle.std.proofs.lemmas.Bool.{and_parts, and_from, or_parts, eqb-true, eqb-false, eq-eqb, ne_eqb, true≢false, not-true}
+use Rattle.std.proofs.lemmas.Bool.{and_parts, and_from, or_parts, eqb-true, eqb-false, eq-eqb, not-true}
 use Rattle.std.proofs.lemmas.List.{map-append}
-use Rattle.std.proofs.lemmas.List.Folds.{list_any-append}
 use Rattle.midcode.specs.declared.op.Op.{Op}
 use Rattle.midcode.specs.declared.op.OpKind.{OpKind}
 use Rattle.midcode.specs.declared.register.VReg.{VReg}
@@ -20,8 +20,9 @@ use Rattle.midopt.specs.Better.{IsBetterRun, IsThinner, Both, IsBetter, IsBetter
 use Rattle.midopt.specs.Tidy.{is_register, are_reading, is_unread, is_idle}
 use Rattle.midopt.proofs.Relation.{get-set, both-same}
 use Rattle.midopt.proofs.Effects.{Places, ops, IsEdit}
-use Rattle.midopt.proofs.Runs.{IsKept, IsServing, Serves, IsIdle, Serve, serves-itself, serves-better}
-use Rattle.midopt.proofs.Lists.{closed, closed-first, closed-next, closed-skipped, closed-apart, labels-closed, get-closed, get-taken, take-closed}
+use Rattle.midopt.proofs.Runs.{Serves, Serve, serves-itself, serves-better}
+use Rattle.midopt.proofs.Lists.{closed, closed-first, closed-next, closed-skipped, closed-apart}
+use Rattle.midopt.proofs.Lists.{labels-closed, get-closed, get-taken, take-closed}
 use Rattle.midopt.proofs.Lists.{skeleton-closed, size-closed, any-closed}
 use Rattle.midopt.proofs.Whole.{removed-valid}
 
@@ -90,9 +91,10 @@ module _ (q : Program) (n : ℕ) (f : Function) (at : slice_get q.functions n �
 
   here : (g : ℕ) → (g == n) ≡ true → (function_at q g ≡ Some f) × (function_at p g ≡ Some without)
   here g is =
-      let same = sym (eqb-true g n is) in
-      (subst (λ m. function_at q m ≡ Some f) same at,
-      subst (λ m. function_at p m ≡ Some without) same (get-set q.functions n f without at))
+      let same = sym (eqb-true g n is) in (
+        subst (λ m. function_at q m ≡ Some f) same at,
+        subst (λ m. function_at p m ≡ Some without) same (get-set q.functions n f without at),
+      )
 
   there : (g : ℕ) → (g == n) ≡ false → function_at p g ≡ function_at q g
   there g other = get-other q.functions n g without (eqb-false g n other)
@@ -197,15 +199,18 @@ module _ (q : Program) (n : ℕ) (f : Function) (at : slice_get q.functions n �
           (served-same g x kept (slice_get (ops q g) x) (seen-by g x (g == n) refl));
       idle = λ g x gone.
           let parts = and_parts (g == n) (x == place) gone in
-          let same = eqb-true x place parts.1 in
-          (o.kind, ap (λ ks. slice_get ks x) (old-ops g parts.0) ∙ ap (slice_get (before ++ o.kind ∷ behind)) same ∙
-          get-taken o.kind value behind before, record {
-            value = value;
-            to = to;
-            writes = writing;
-            unread = and_from (g == n) (to.0 == to.0) parts.0 (eq-eqb to.0 to.0 refl);
-            skipped = skipped-by x (g == n) parts.0 same;
-          });
+          let same = eqb-true x place parts.1 in (
+            o.kind,
+            ap (λ ks. slice_get ks x) (old-ops g parts.0) ∙ ap (slice_get (before ++ o.kind ∷ behind)) same ∙
+                get-taken o.kind value behind before,
+            record {
+              value = value;
+              to = to;
+              writes = writing;
+              unread = and_from (g == n) (to.0 == to.0) parts.0 (eq-eqb to.0 to.0 refl);
+              skipped = skipped-by x (g == n) parts.0 same;
+            },
+          );
       standing = λ g x kept. standing-by g x (g == n) refl kept;
     }
 

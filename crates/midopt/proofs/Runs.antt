@@ -1,10 +1,8 @@
 -- A program whose operations serve as another's do: its runs are better.
-use Rattle.std.proofs.Common.{◌≡◌, ℕ, zero, suc, ◌+◌, ◌≤◌, ◌⊎◌, inl, inr, Bool, true, false, not, List, [], ◌∷◌, length, take}
+use Rattle.std.proofs.Common.{◌≡◌, ℕ, zero, suc, ◌+◌, ◌≤◌, ◌⊎◌, inl, inr, Bool, true, false, not, List, length, take}
 use Rattle.std.proofs.Common.{Option, Some, None, refl, sym, subst, ap, ◌∙◌, arith, le_refl, slice_get}
 use Rattle.std.specs.List.{list_all}
 use Rattle.std.proofs.lemmas.Option.{slice_get_within}
-use Rattle.behaviour.specs.declared.stop.Stop.{Stop}
-use Rattle.behaviour.specs.declared.stop.Stop.TheVariants.{More}
 use Rattle.behaviour.specs.Ran.{Ran, Done, Stopped, and_then}
 use Rattle.behaviour.specs.Machine.{exec, Reaches}
 use Rattle.behaviour.proofs.MachineLemmas.{reaches-refl, reaches-trans, reaches-step}
@@ -18,7 +16,7 @@ use Rattle.midcode.specs.Machine.{Wild, State}
 use Rattle.midcode.specs.Meaning.{running, effect, charged, performed, step, start, first_memory}
 use Rattle.midopt.specs.Weighed.{Weight, IsOfActs, Weighed, weight_at, weighing, weighed, run}
 use Rattle.midopt.specs.Better.{IsShown, is_wild, StandsAs, IsBetterRun}
-use Rattle.midopt.proofs.Alike.{Shown, Same, Alike}
+use Rattle.midopt.proofs.Alike.{Alike}
 use Rattle.midopt.proofs.Effects.{Places, LikeAt, Like, shown-of, ops, IsEdit, effect-alike}
 use Rattle.midopt.proofs.Quiet.{Quiet, value-skipped}
 
@@ -347,22 +345,26 @@ module _ (q p : Program) (a : List ℕ) (e : Places) (Inv : State → Type 0) (s
       second = record { state = start p a values; weight = 0 }
 
       near : Near first second
-      near = (q.main, 0, record {
-        at = record {
-          frame = record {
-            old_function = refl;
-            old_place = refl;
-            function = serve.main;
-            place = sym (serve.edit.starts q.main);
-            registers = λ r seen. refl;
-            taken = λ y stays. refl;
+      near = (
+        q.main,
+        0,
+        record {
+          at = record {
+            frame = record {
+              old_function = refl;
+              old_place = refl;
+              function = serve.main;
+              place = sym (serve.edit.starts q.main);
+              registers = λ r seen. refl;
+              taken = λ y stays. refl;
+            };
+            callers = tt;
+            memory = ap (first_memory a a) serve.edit.objects;
+            values = refl;
+            events = refl;
+            charge = le_refl zero;
           };
-          callers = tt;
-          memory = ap (first_memory a a) serve.edit.objects;
-          values = refl;
-          events = refl;
-          charge = le_refl zero;
-        };
-        weight = refl;
-        inv = serve.inv.first values;
-      })
+          weight = refl;
+          inv = serve.inv.first values;
+        },
+      )

@@ -1,6 +1,6 @@
 -- Going over the operations, and taking out those whose value goes to a register that isn't marked.
-use Rattle.std.proofs.Common.{◌≡◌, ℕ, zero, suc, ◌+◌, ◌<◌, ◌≤◌, ◌⊎◌, inl, inr, Bool, true, false, not, ◌&&◌, List, [], ◌∷◌, ◌++◌}
-use Rattle.std.proofs.Common.{length, Option, Some, None, refl, sym, subst, ap, ◌∙◌, arith, append-nil, append_assoc, length-append, if◌then◌else◌}
+use Rattle.std.proofs.Common.{◌≡◌, ℕ, ◌+◌, ◌<◌, ◌≤◌, Bool, true, false, not, ◌&&◌, List, [], ◌∷◌, ◌++◌}
+use Rattle.std.proofs.Common.{length, Option, Some, None, refl, sym, subst, ap, ◌∙◌, arith, append-nil, append_assoc, length-append}
 use Rattle.std.specs.Prelude.{IfSome}
 use Rattle.std.specs.List.{list_all, list_any}
 use Rattle.std.proofs.lemmas.Bool.{and_parts, and_from, not-true, true≢false}
@@ -113,12 +113,14 @@ module _ (old now : Function) (node index : ℕ) (found : Bool) (w : Swept old n
       unread = w.unread;
       some = w.some;
       few = w.few;
-      none = λ h. ((w.none h).0,
-          ap (list_all (is_kept old)) (map-append (λ n. n.1.kind) w.front ((node, o) ∷ [])) ∙
-          list_all-append (is_kept old) (kinds_of w.front) (o.kind ∷ []) ∙
-          and_from (list_all (is_kept old) (kinds_of w.front)) (is_kept old o.kind && true) (w.none h).1
-          (and_from (is_kept old o.kind) true
-          (ap (λ j. is_kept old j.kind) (sym (get w.front o rest stands)) ∙ ap not marked) refl));
+      none = λ h. (
+        (w.none h).0,
+        ap (list_all (is_kept old)) (map-append (λ n. n.1.kind) w.front ((node, o) ∷ [])) ∙
+            list_all-append (is_kept old) (kinds_of w.front) (o.kind ∷ []) ∙
+            and_from (list_all (is_kept old) (kinds_of w.front)) (is_kept old o.kind && true) (w.none h).1
+            (and_from (is_kept old o.kind) true
+            (ap (λ j. is_kept old j.kind) (sym (get w.front o rest stands)) ∙ ap not marked) refl),
+      );
     }
 
     module _ (un : is_unmarked (marks old) (value_to k.kind) ≡ true) where

@@ -1,5 +1,5 @@
 -- A program stays valid where an operation that only computes a value is taken out of a function.
-use Rattle.std.proofs.Common.{◌≡◌, ℕ, zero, suc, ◌==◌, ◌&&◌, Bool, true, false, List, [], ◌∷◌, ◌++◌, map, Option, Some, None}
+use Rattle.std.proofs.Common.{◌≡◌, ℕ, zero, suc, ◌==◌, ◌&&◌, Bool, true, List, [], ◌∷◌, ◌++◌, map, Option, Some, None}
 use Rattle.std.proofs.Common.{refl, sym, subst, ap, ◌∙◌, slice_get, slice_set, nat_lt}
 use Rattle.std.specs.List.{list_all, list_any}
 use Rattle.std.proofs.lemmas.Bool.{and_parts, and_from}
@@ -13,7 +13,7 @@ use Rattle.midcode.specs.declared.signature.Signature.{Signature}
 use Rattle.midcode.specs.Operation.{is_value, target_of, objects_of, region_of}
 use Rattle.midcode.specs.Function.{Function, kinds, kinds_of, standing, stands, each_of, IsValidFunction}
 use Rattle.midcode.specs.Structure.{skeleton, is_structured}
-use Rattle.midcode.specs.Program.{Program, Outside, outside, is_called_well, is_linked, ends_well, is_function_of, skeletons, is_object_of}
+use Rattle.midcode.specs.Program.{Program, Outside, outside, is_called_well, is_linked, ends_well, is_function_of, skeletons}
 use Rattle.midcode.specs.Program.{each_below, is_marked, is_main, is_whole, IsValidProgram}
 use Rattle.midcode.proofs.Valid.{valid-removed}
 use Rattle.midopt.specs.Better.{placed}
@@ -127,7 +127,8 @@ module _ (f : Function) (front back : List (ℕ × Op)) (node : ℕ) (o : Op) (w
         subst IsValidFunction (get_or_from_slice_get q.functions n f f at)
         (valid.each n f (slice_get_within q.functions n f at))
 
-pub removed-valid : (q : Program) (n : ℕ) (f : Function) → slice_get q.functions n ≡ Some f → (front back : List (ℕ × Op)) (node : ℕ) (o : Op)
+pub removed-valid : (q : Program) (n : ℕ) (f : Function) → slice_get q.functions n ≡ Some f
+    → (front back : List (ℕ × Op)) (node : ℕ) (o : Op)
     → f.nodes ≡ front ++ (node, o) ∷ back → is_value o.kind ≡ true → IsValidProgram q
     → IsValidProgram (placed q n (record f { nodes = front ++ back }))
 removed-valid q n f at front back node o whole value valid = record {

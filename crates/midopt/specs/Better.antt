@@ -1,12 +1,12 @@
 -- When a program may stand for another.
-use Rattle.std.specs.Prelude.{◌≡◌, ℕ, ◌≤◌, ◌⊎◌, Bool, true, false, IsTrue, List, [], ◌∷◌, length, Option, Some, None}
+use Rattle.std.specs.Prelude.{◌≡◌, ℕ, ◌≤◌, ◌⊎◌, Bool, true, false, List, Option, Some, None}
 use Rattle.std.specs.Prelude.{slice_get, slice_set, sum_by}
 use Rattle.std.specs.List.{list_any}
 use Rattle.behaviour.specs.declared.stop.Stop.{Stop}
 use Rattle.behaviour.specs.declared.stop.Stop.TheVariants.{Undefined}
 use Rattle.behaviour.specs.Ran.{Ran, Done, Stopped}
 use Rattle.midcode.specs.Machine.{Wild}
-use Rattle.midcode.specs.Function.{Function, kinds, IsValidFunction}
+use Rattle.midcode.specs.Function.{Function, kinds}
 use Rattle.midcode.specs.Structure.{skeleton}
 use Rattle.midcode.specs.Program.{Program, IsValidProgram}
 use Rattle.midcode.specs.Cost.{size, multiplies, divides}

@@ -1,5 +1,4 @@
-ghost use Rattle.std.specs.Prelude.{◌≡◌, ◌<◌, length, IfOk, OnOk};
-ghost use Rattle.midcode.specs.declared.op.OpKind.TheVariants.{Halt};
+ghost use Rattle.std.specs.Prelude.{◌<◌, length};
 
 use crate::remove_idle;
 use midcode::{MOST, MidFn, Op, OpKind, Signature, VReg};

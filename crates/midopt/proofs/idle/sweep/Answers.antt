@@ -1,6 +1,5 @@
-use Rattle.std.proofs.Common.{◌≡◌, ℕ, Bool, true, false, Option, Some, sym, subst, ap, ◌∙◌, arith}
-use Rattle.midcode.specs.Function.{kinds}
-use Rattle.midopt.specs.Marks.{marks_of, value_to, is_unmarked}
+use Rattle.std.proofs.Common.{ℕ, Option, sym, subst, ap, ◌∙◌, arith}
+use Rattle.midopt.specs.Marks.{value_to, is_unmarked}
 use Rattle.midopt.proofs.SweepLemmas.{Swept, swept-first, swept-kept, swept-out, swept-end}
 use Rattle.midopt.proofs.idle.sweep.Goals as goal
 use Rattle.midopt.proofs.idle.sweep.Goals.{then-is_unmarked, else-is_unmarked}
@@ -17,11 +16,11 @@ loop-preserved c =
     ap (is_unmarked c.args.marks.now) (sym c.register_of_value.ensures) ∙ sym c.is_unmarked.ensures in
     elim c.if-is_unmarked.branch [
       | then-is_unmarked b ↦ rw (b.f-is, b.found-is)
-        (swept-out c.args.f.now c.loop.f c.in-Some.node c.loop.counter c.loop.found w c.get.result.now c.get.ensures
-        c.next-at.result c.next-at.ensures.value (un ∙ b.if-is_unmarked.true) b.remove.new.self b.remove.ensures)
+          (swept-out c.args.f.now c.loop.f c.in-Some.node c.loop.counter c.loop.found w c.get.result.now c.get.ensures
+          c.next-at.result c.next-at.ensures.value (un ∙ b.if-is_unmarked.true) b.remove.new.self b.remove.ensures)
       | else-is_unmarked b ↦ rw (b.f-is, b.found-is)
-        (swept-kept c.args.f.now c.loop.f c.in-Some.node c.loop.counter c.loop.found w c.get.result.now c.get.ensures
-        c.next-at.result c.next-at.ensures.value c.next-at.ensures.node (un ∙ b.if-is_unmarked.false))
+          (swept-kept c.args.f.now c.loop.f c.in-Some.node c.loop.counter c.loop.found w c.get.result.now c.get.ensures
+          c.next-at.result c.next-at.ensures.value c.next-at.ensures.node (un ∙ b.if-is_unmarked.false))
     ]
 
 pub returns-after-loop-clause-none : goal.returns-after-loop-clause-none

@@ -1,4 +1,4 @@
-use Rattle.std.proofs.Common.{◌≡◌, ◌+◌, [], ◌∷◌, ◌++◌, refl, sym, ap, ◌∙◌, arith, take, get_or}
+use Rattle.std.proofs.Common.{[], ◌∷◌, refl, sym, ap, ◌∙◌, arith, take, get_or}
 use Rattle.midcode.specs.declared.register.VReg.{VReg}
 use Rattle.midopt.specs.Marks.{marked}
 use Rattle.std.proofs.lemmas.List.{take_more, take_all}
