@@ -1,0 +1,10 @@
+pub mod Relation
+pub mod Alike
+pub mod Effects
+pub mod Quiet
+pub mod Runs
+pub mod Lists
+pub mod Whole
+pub mod Removed
+pub mod MarkLemmas
+pub mod SweepLemmas

@@ -1,0 +1,4 @@
+pub mod Weighed
+pub mod Better
+pub mod Tidy
+pub mod Marks
