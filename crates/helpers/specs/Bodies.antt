@@ -64,13 +64,19 @@ returned = item.Whole (inst.Jmp (jump.Field return_field))
 abbrev pub return_note : Item
 return_note = item.Note kinds.Return 0
 
+abbrev pub back : List Item
+back = return_note ∷ returned ∷ []
+
 -- ---- multiplication
 
 abbrev pub multiplied : List Item
 multiplied =
     loaded 16 0 ∷ loaded 17 32 ∷ looped 0 ∷ calculated ops.Sub 17 17 (operand.Imm 1) ∷ calculated ops.Add 16 16 (register 16)
     ∷ branched conditions.BitSet 15 (register 17) 1 ∷ skipped 0 ∷ item.Label 1 ∷ calculated ops.Add 16 16 (register 14)
-    ∷ item.Label 0 ∷ calculated ops.Add 14 16 (operand.Imm 0) ∷ return_note ∷ returned ∷ []
+    ∷ item.Label 0 ∷ calculated ops.Add 14 16 (operand.Imm 0) ∷ []
+
+abbrev pub multiplication : List Item
+multiplication = multiplied ++ back
 
 -- ---- division
 
@@ -99,9 +105,6 @@ quotient_sign =
 
 abbrev pub quotient_moved : Item
 quotient_moved = calculated ops.Add 14 16 (operand.Imm 0)
-
-abbrev pub back : List Item
-back = return_note ∷ returned ∷ []
 
 abbrev pub divided_unsigned : List Item
 divided_unsigned = divided ++ (quotient_moved ∷ back)

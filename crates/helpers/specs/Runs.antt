@@ -28,8 +28,8 @@ pub record StandsAt (code : Code) (base : ℕ) (items : List Item) : Type 0 wher
 -- ---- runs
 
 -- whatever it is given, the core's next step shows nothing, stores nothing outside, and goes on
-abbrev pub StepsTo : Code → State → State → Type 0
-StepsTo code s t = (g : Given) → code_step code s g ≡ record { core = t; out = record { events = []; at = 0; stored = []; stop = Going } }
+pub record StepsTo (code : Code) (s t : State) : Type 0 where
+  pub does : (g : Given) → code_step code s g ≡ record { core = t; out = record { events = []; at = 0; stored = []; stop = Going } }
 
 -- so many such steps
 pub data RunsTo (code : Code) : ℕ → State → State → Type 0 where
@@ -73,6 +73,5 @@ pub record Call (code : Code) (cycles : ℕ) (before : State) (n : ℕ) : Type 0
 
 -- Wherever the items stand, and whatever the code's numbering is, they take so many steps from the first of them to their return, and
 -- leave the number.
-abbrev pub Computes : (ℕ → ℕ → ℕ) → ℕ → List Item → Type 0
-Computes f cycles items =
-    (code : Code) (base a b : ℕ) (s : State) → StandsAt code base items → Begins base a b s → Call code cycles s (f a b)
+pub record Computes (f : ℕ → ℕ → ℕ) (cycles : ℕ) (items : List Item) : Type 0 where
+  pub call : (code : Code) (base a b : ℕ) (s : State) → StandsAt code base items → Begins base a b s → Call code cycles s (f a b)

@@ -7,8 +7,8 @@ ghost use Rattle.prunum.specs.Number.{quot_u, rem_u, quot_s, rem_s};
 ghost use Rattle.helpers.specs.Bodies.{negated, magnitudes, divided, quotient_sign, quotient_moved, back};
 ghost use Rattle.helpers.specs.Runs.{Computes};
 
-use crate::items::{branched, calculated, loaded, looped, register, returned, skipped};
-use isa::{AluOp, AsmProgram, Condition, Item, NoteKind, Operand};
+use crate::items::{append, back, branched, calculated, loaded, looped, register, skipped};
+use isa::{AluOp, AsmProgram, Condition, Item, Operand};
 use prunum::Memory;
 use std::alloc::Global;
 
@@ -67,24 +67,6 @@ fn quotient_moved() -> Item
     ensures { result ≡ quotient_moved }
 {
     calculated(AluOp::Add, 14, 16, Operand::Imm(0))
-}
-
-fn back() -> [Item; 2]
-    ensures { result ≡ back }
-{
-    [
-        Item::Note {
-            kind: NoteKind::Return,
-            value: 0,
-        },
-        returned(),
-    ]
-}
-
-fn append(items: &mut Vec<Item>, more: &[Item]) -> Result<(), Memory>
-    ensures { OnOk result (items.new.items ≡ items.old.items ++ more.now) }
-{
-    Ok(items.extend_from_slice(more)?)
 }
 
 /// R14 and R15 become their distances from 0.

@@ -1,12 +1,13 @@
 //! The items that bodies are made of. Registers are whole ones.
 
-ghost use Rattle.std.specs.Prelude.{◌≡◌, ◌<◌};
+ghost use Rattle.std.specs.Prelude.{◌≡◌, ◌++◌, OnOk};
 ghost use Rattle.helpers.specs.Bodies.{whole, register, unaimed, calculated, loaded, turns, looped, branched, skipped};
-ghost use Rattle.helpers.specs.Bodies.{return_field, returned};
+ghost use Rattle.helpers.specs.Bodies.{return_field, returned, back};
 
 use isa::{
-    AluOp, BranchOffset, Condition, Field, Inst, Item, Jump, LoopBody, Operand, Part, Target,
+    AluOp, BranchOffset, Condition, Field, Inst, Item, Jump, LoopBody, NoteKind, Operand, Part, Target,
 };
+use prunum::Memory;
 
 fn whole(r: u8) -> Field
     ensures { result ≡ whole r }
@@ -111,4 +112,24 @@ pub(crate) fn returned() -> Item
     Item::Whole(Inst::Jmp {
         to: Jump::Field(return_field()),
     })
+}
+
+/// The end of a body.
+pub(crate) fn back() -> [Item; 2]
+    ensures { result ≡ back }
+{
+    [
+        Item::Note {
+            kind: NoteKind::Return,
+            value: 0,
+        },
+        returned(),
+    ]
+}
+
+/// Puts the items behind the others.
+pub(crate) fn append(items: &mut Vec<Item>, more: &[Item]) -> Result<(), Memory>
+    ensures { OnOk result (items.new.items ≡ items.old.items ++ more.now) }
+{
+    Ok(items.extend_from_slice(more)?)
 }

@@ -5,12 +5,12 @@ ghost use Rattle.helpers.specs.Bodies.{multiplied};
 ghost use Rattle.helpers.specs.Numbers.{product};
 ghost use Rattle.helpers.specs.Runs.{Computes};
 
-use crate::items::{branched, calculated, loaded, looped, register, returned, skipped};
-use isa::{AluOp, AsmProgram, Condition, Item, NoteKind, Operand};
+use crate::items::{append, back, branched, calculated, loaded, looped, register, skipped};
+use isa::{AluOp, AsmProgram, Condition, Item, Operand};
 use prunum::Memory;
 use std::alloc::Global;
 
-fn multiplied() -> [Item; 13]
+fn multiplied() -> [Item; 11]
     ensures { result ≡ multiplied }
 {
     let (end, one) = (0, 1);
@@ -26,11 +26,6 @@ fn multiplied() -> [Item; 13]
         calculated(AluOp::Add, 16, 16, register(14)),
         Item::Label(end),
         calculated(AluOp::Add, 14, 16, Operand::Imm(0)),
-        Item::Note {
-            kind: NoteKind::Return,
-            value: 0,
-        },
-        returned(),
     ]
 }
 
@@ -38,5 +33,8 @@ fn multiplied() -> [Item; 13]
 pub fn mul(alloc: Global) -> Result<AsmProgram, Memory>
     ensures { IfOk result (λ p. Computes product 133 p) }
 {
-    Ok(AsmProgram::new(multiplied().to_vec(alloc)?))
+    let mut items = Vec::new(alloc);
+    append(&mut items, &multiplied())?;
+    append(&mut items, &back())?;
+    Ok(AsmProgram::new(items))
 }
