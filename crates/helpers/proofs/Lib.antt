@@ -4,3 +4,8 @@ pub mod Steps
 pub mod Calls
 pub mod Pieces
 pub mod Multiplying
+pub mod Dividing
+pub mod Unsigned
+pub mod Signs
+pub mod Signing
+pub mod Signed

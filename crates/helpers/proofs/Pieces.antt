@@ -1,5 +1,5 @@
 -- A body that is put together of pieces.
-use Rattle.std.proofs.Common.{◌≡◌, ℕ, zero, suc, ◌+◌, ◌<◌, List, [], ◌∷◌, ◌++◌, length, map, refl, sym, ap, ◌∙◌, arith, Option, Some, None, length-append}
+use Rattle.std.proofs.Common.{◌≡◌, ℕ, zero, suc, ◌+◌, ◌<◌, List, [], ◌∷◌, ◌++◌, length, map, refl, sym, ap, subst, ◌∙◌, arith, Option, Some, None, length-append}
 use Rattle.std.specs.Prelude.{slice_get, option_map, option_and_then}
 use Rattle.isa.specs.declared.inst.Inst.{Inst}
 use Rattle.isa.specs.declared.program.Item.{Item}
@@ -9,10 +9,8 @@ use Rattle.helpers.specs.Runs.{StandsAt, aim_in}
 
 -- ---- lists that grow by one piece at a time
 
-pub two_pieces : (result second first none x y p q : List Item) → result ≡ second → second ≡ first ++ y → first ≡ none ++ x → none ≡ []
-    → x ≡ p → y ≡ q → result ≡ p ++ q
-two_pieces result second first none x y p q r s f e i j =
-    r ∙ s ∙ ap (λ (l : List Item). l ++ y) (f ∙ ap (λ (l : List Item). l ++ x) e ∙ i) ∙ ap (λ (l : List Item). p ++ l) j
+pub grows : (previous next x known p : List Item) → next ≡ previous ++ x → previous ≡ known → x ≡ p → next ≡ known ++ p
+grows previous next x known p is so e = is ∙ ap (λ (l : List Item). l ++ x) so ∙ ap (λ (l : List Item). known ++ l) e
 
 -- ---- where a piece stands
 
@@ -45,10 +43,10 @@ aim_moved items piece base o (x ∷ xs) within zero =
     ap (option_map (λ p. base + p)) within.0 ∙ moved base o (option_and_then (place_aimed piece) x.aim)
 aim_moved items piece base o (x ∷ xs) within (suc p) = aim_moved items piece base o xs within.1 p
 
-pub part : (code : Code) (base o : ℕ) (items piece : List Item) (before behind : List Placed)
+part_there : (code : Code) (base o : ℕ) (items piece : List Item) (before behind : List Placed)
     → StandsAt code base items → placed [] items ≡ before ++ (placed [] piece ++ behind) → length before ≡ o
     → AimsWithin items piece o (placed [] piece) → StandsAt code (base + o) piece
-part code base o items piece before behind stands is size within =
+part_there code base o items piece before behind stands is size within =
     let xs : List Placed = placed [] piece in
     let all : (p : ℕ) → p < length xs → o + p < length (placed [] items) = λ p less.
     let long = ap length is in
@@ -62,3 +60,9 @@ part code base o items piece before behind stands is size within =
       target = λ p less. ap code.target (place p) ∙ stands.target (o + p) (all p less) ∙ ap (aim_in items base) (at p less)
           ∙ aim_moved items piece base o xs within p;
     }
+
+pub part : (code : Code) (base o p : ℕ) (items piece : List Item) (before behind : List Placed)
+    → StandsAt code base items → placed [] items ≡ before ++ (placed [] piece ++ behind) → length before ≡ o → base + o ≡ p
+    → AimsWithin items piece o (placed [] piece) → StandsAt code p piece
+part code base o p items piece before behind stands is size place within =
+    subst (λ (n : ℕ). StandsAt code n piece) place (part_there code base o items piece before behind stands is size within)

@@ -1,7 +1,9 @@
 -- What a turn of a loop does to numbers.
 use Rattle.std.proofs.Common.{◌≡◌, ℕ, zero, suc, ◌+◌, ◌-◌, ◌*◌, ◌/◌, ◌%◌, ◌^◌, ◌<◌, ◌≤◌, refl, sym, ap, ◌∙◌, arith, ◌⊎◌, inl, inr}
-use Rattle.std.specs.Prelude.{bit_or}
-use Rattle.std.proofs.Math.Nat.{mul_comm, pow-suc, mul-add, add-mul, div-lt_iff_lt-mul}
+use Rattle.std.specs.Prelude.{bit_or, ◌==◌, if◌then◌else◌, Bool, true, false}
+use Rattle.prunum.specs.Number.{quot_u, rem_u}
+use Rattle.std.proofs.Math.Dec.{eqb-suc-zero}
+use Rattle.std.proofs.Math.Nat.{mul_comm, div-le_self, mod-le, pow-suc, mul-add, add-mul, div-lt_iff_lt-mul}
 use Rattle.std.proofs.lemmas.Nat.{shr-shr, pow_pos, or_shifted, div-mul-add, mod-mul-add, mul-le, pow_below, div-add-mod'}
 
 -- ---- multiplication: the product with the high bits, doubled, and added to where the next bit is 1
@@ -78,7 +80,7 @@ not_taken A d k r q is less =
       full = λ none. absurd (omega arith);
     }
 
-at_least : (d k r : ℕ) → d ≤ r / 2 ^ k → d * 2 ^ k ≤ r
+pub at_least : (d k r : ℕ) → d ≤ r / 2 ^ k → d * 2 ^ k ≤ r
 at_least d k r most =
     let below : d * 2 ^ k ≤ r / 2 ^ k * 2 ^ k = mul-le d (2 ^ k) (r / 2 ^ k) (2 ^ k) most (omega arith) in
     omega (arith, div-add-mod' r (2 ^ k))
@@ -115,3 +117,35 @@ quotient_fits A (suc d) k r q is fits =
     let sum = is.sum in
     let least : q * 1 ≤ q * suc d = mul-le q 1 q (suc d) (omega arith) (omega arith) in
     omega arith
+
+-- ---- when no bit is left
+
+pub quotient_is : (A d r q : ℕ) → Divides A d 0 r q → q ≡ quot_u A d
+quotient_is A zero r q is = let full = is.full refl in omega arith
+quotient_is A (suc d) r q is =
+    let some : (suc d == 0) ≡ false = eqb-suc-zero d in
+    let less : r < suc d = let h = is.small (omega arith) in omega arith in
+    sym (ap (λ (b : Bool). if b then 2 ^ 32 - 1 else A / suc d) some ∙ ap (λ (n : ℕ). n / suc d) (sym is.sum) ∙ div-mul-add q (suc d) r less)
+
+pub rest_is : (A d r q : ℕ) → Divides A d 0 r q → r ≡ rem_u A d
+rest_is A zero r q is = let sum = is.sum in omega arith
+rest_is A (suc d) r q is =
+    let some : (suc d == 0) ≡ false = eqb-suc-zero d in
+    let less : r < suc d = let h = is.small (omega arith) in omega arith in
+    sym (ap (λ (b : Bool). if b then A else A % suc d) some ∙ ap (λ (n : ℕ). n % suc d) (sym is.sum) ∙ mod-mul-add q (suc d) r less)
+
+-- ---- sizes
+
+pub quot_u_fits : (a b : ℕ) → a < 2 ^ 32 → quot_u a b < 2 ^ 32
+quot_u_fits a zero fits = omega arith
+quot_u_fits a (suc b) fits =
+    let some : (suc b == 0) ≡ false = eqb-suc-zero b in
+    let is : quot_u a (suc b) ≡ a / suc b = ap (λ (t : Bool). if t then 2 ^ 32 - 1 else a / suc b) some in
+    let less = div-le_self a (suc b) in omega arith
+
+pub rem_u_fits : (a b : ℕ) → a < 2 ^ 32 → rem_u a b < 2 ^ 32
+rem_u_fits a zero fits = omega arith
+rem_u_fits a (suc b) fits =
+    let some : (suc b == 0) ≡ false = eqb-suc-zero b in
+    let is : rem_u a (suc b) ≡ a % suc b = ap (λ (t : Bool). if t then a else a % suc b) some in
+    let less = mod-le a (suc b) in omega arith
