@@ -1,0 +1,11 @@
+pub mod Turns
+pub mod Laid
+pub mod Steps
+pub mod Calls
+pub mod Pieces
+pub mod Multiplying
+pub mod Dividing
+pub mod Unsigned
+pub mod Signs
+pub mod Signing
+pub mod Signed

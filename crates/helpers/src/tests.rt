@@ -1,0 +1,183 @@
+use crate::{Helper, cycles, divs, divu, mul, rems, remu};
+use corestep::{Core, Input, Stop, step};
+use isa::{
+    BranchOffset, Field, Image, Inst, Item, LoopBody, Note, NoteKind, Part, Target, encode,
+    is_image,
+};
+use prunum::{quot_s, quot_u, rem_s, rem_u};
+use std::process::Abort;
+use std::test::Fail;
+
+// Operands: the ends of both readings, and some between.
+const ENDS: [u32; 10] = [
+    0,
+    1,
+    2,
+    7,
+    0x7fff_ffff,
+    0x8000_0000,
+    0x8000_0001,
+    0xffff_fff9,
+    0xffff_fffe,
+    0xffff_ffff,
+];
+
+fn place_of(items: &[Item], label: u32) -> i16 {
+    let mut place = 0;
+    for item in items {
+        match *item {
+            Item::Label(l) if l == label => return place,
+            Item::Whole(_) | Item::Aimed { .. } => place += 1,
+            _ => {}
+        }
+    }
+    place
+}
+
+/// The instruction at a place, with the distance to its label.
+fn aimed(items: &[Item], at: i16, inst: Inst, target: Target) -> Inst {
+    let Target::Label(l) = target else {
+        return inst;
+    };
+    let distance = place_of(items, l) - at;
+    if distance < 1 || distance > 100 {
+        return inst;
+    }
+    match inst {
+        Inst::Loop { body } => Inst::Loop {
+            body: LoopBody {
+                count: body.count,
+                length: (distance - 1) as u8,
+            },
+        },
+        Inst::Branch {
+            condition,
+            a,
+            b,
+            ..
+        } => Inst::Branch {
+            condition,
+            offset: BranchOffset { words: distance },
+            a,
+            b,
+        },
+        Inst::Qba { .. } => Inst::Qba {
+            offset: BranchOffset { words: distance },
+        },
+        _ => inst,
+    }
+}
+
+fn whole(reg: u8) -> Field {
+    Field {
+        reg: reg % 32,
+        part: Part::All,
+    }
+}
+
+fn half(reg: u8, part: Part) -> Field {
+    Field {
+        reg: reg % 32,
+        part,
+    }
+}
+
+/// The words of a program that puts the operands into R14 and R15 and the last word's number into R3.w2, does the body, and halts.
+fn words_of<R: AllocGlobal + Abort>(
+    rt: &R,
+    items: &[Item],
+    a: u32,
+    b: u32,
+) -> Result<Vec<u32>, Fail> {
+    let mut words = Vec::new(rt.alloc());
+    let length = place_of(items, u32::MAX);
+    for (d, n) in [
+        (half(14, Part::W0), a % 65_536),
+        (half(14, Part::W2), a / 65_536),
+        (half(15, Part::W0), b % 65_536),
+        (half(15, Part::W2), b / 65_536),
+        (half(3, Part::W2), length as u32 + 5),
+    ] {
+        words.push(encode(&Inst::Ldi { d, n: n as u16 }))?;
+    }
+    let mut at = 0;
+    for item in items {
+        match *item {
+            Item::Whole(inst) => words.push(encode(&inst))?,
+            Item::Aimed { inst, target } => words.push(encode(&aimed(items, at, inst, target)))?,
+            _ => continue,
+        }
+        at += 1;
+    }
+    words.push(encode(&Inst::Halt))?;
+    Ok(words)
+}
+
+/// R14 after so many steps of the body, if the core is then at the last word, and was nowhere stopped.
+fn run<R: AllocGlobal + Abort>(
+    rt: &R,
+    items: &[Item],
+    a: u32,
+    b: u32,
+    count: u32,
+) -> Result<Option<u32>, Fail> {
+    let alloc = rt.alloc();
+    let words = words_of(rt, items, a, b)?;
+    let last = words.len() as u32 - 1;
+    let init: Vec<u8> = Vec::new(alloc);
+    let notes: Vec<Note> = Vec::new(alloc);
+    assert!(rt; is_image(words.as_slice(), 0x10, init.as_slice(), 0, notes.as_slice()));
+    let image = Image::new(words, 0x10, init, 0, notes);
+    let mut core = Core::new(alloc, &image)?;
+    let input = Input {
+        r31: 0,
+        bytes: [0; 124],
+        pads: [0; 4],
+    };
+    for _ in 0..count + 5 {
+        let out = step(&mut core, &image, &input);
+        if out.stop != Stop::Going || !out.events.as_slice().is_empty() {
+            return Ok(None);
+        }
+    }
+    Ok(if core.pc() == last {
+        Some(core.reg(14))
+    } else {
+        None
+    })
+}
+
+fn check<R: AllocGlobal + Abort>(
+    rt: &R,
+    h: Helper,
+    items: &[Item],
+    wanted: fn(u32, u32) -> u32,
+) -> Result<(), Fail> {
+    for a in ENDS {
+        for b in ENDS {
+            assert_eq!(rt;
+                run(rt, items, a, b, cycles(h))?,
+                Some(wanted(a, b)),
+                "{a:x} {b:x}"
+            );
+        }
+    }
+    Ok(())
+}
+
+fn product(a: u32, b: u32) -> u32 {
+    a.wrapping_mul(b)
+}
+
+#[test]
+fn multiplies(rt: HostRuntime) -> Result<(), Fail> {
+    check(&rt, Helper::Mul, mul(rt.alloc())?.items(), product)
+}
+
+#[test]
+fn divides(rt: HostRuntime) -> Result<(), Fail> {
+    check(&rt, Helper::DivU, divu(rt.alloc())?.items(), quot_u)?;
+    check(&rt, Helper::RemU, remu(rt.alloc())?.items(), rem_u)?;
+    check(&rt, Helper::DivS, divs(rt.alloc())?.items(), quot_s)?;
+    check(&rt, Helper::RemS, rems(rt.alloc())?.items(), rem_s)
+}
