@@ -1,7 +1,7 @@
 -- The fields of a line are read as they are printed, and what is read is printed so.
-use Rattle.std.proofs.Common.{◌≡◌, ◌≢◌, ℕ, ◌^◌, ◌-◌, ◌<◌, ◌≤◌, Bool, true, false, cond, ◌==◌, not, nat_le, List, [], ◌∷◌, ◌++◌}
-use Rattle.std.proofs.Common.{length, drop, Option, Some, None, refl, sym, ap, ◌∙◌, arith, codes, option_and_then, subst}
-use Rattle.std.specs.List.{list_all, AllByRecursion, slice_get}
+use Rattle.std.proofs.Common.{◌≡◌, ◌≢◌, ℕ, ◌^◌, ◌-◌, ◌<◌, ◌≤◌, Bool, true, false, cond, ◌==◌, not, nat_le, List, [], ◌∷◌}
+use Rattle.std.proofs.Common.{length, Option, Some, None, refl, sym, ap, ◌∙◌, arith, codes, option_and_then, subst}
+use Rattle.std.specs.List.{list_all, AllByRecursion}
 use Rattle.std.specs.Prelude.{IfSome}
 use Rattle.std.specs.Str.{bytes_eq}
 use Rattle.std.specs.Fmt.{decimal}
@@ -16,14 +16,12 @@ use Rattle.textline.proofs.Printed.{lacks_low, decimal_lacks, line_lacks}
 use Rattle.textline.proofs.SplitLaws.{fields_again, line_back}
 use Rattle.certtext.specs.declared.cert.Cause.{Cause}
 use Rattle.certtext.specs.declared.cert.Cause.TheVariants.{Touches, Unbounded, Crossed, Long}
-use Rattle.certtext.specs.declared.cert.Label.{Label}
-use Rattle.certtext.specs.declared.cert.Refusal.{Refusal}
 use Rattle.certtext.specs.declared.edition.Edition.{Edition}
 use Rattle.certtext.specs.declared.edition.Edition.TheVariants.{First, Second}
 use Rattle.certtext.specs.declared.saying.Saying.{Saying}
 use Rattle.certtext.specs.declared.saying.Saying.TheVariants.{Core, Certified, Labelled, Refused, Unbalanced}
-use Rattle.certtext.specs.Texts.{edition_text, cause_text, saying_text, longest, BoundsFit, UnbalancedFits, Fits}
-use Rattle.certtext.specs.Fields.{edition_in, bounds_fields, saying_fields, within, number_in, field, at_end, alone, ordered}
+use Rattle.certtext.specs.Texts.{edition_text, cause_text, saying_text, BoundsFit, Fits}
+use Rattle.certtext.specs.Fields.{edition_in, bounds_fields, saying_fields, within, number_in, at_end, alone, ordered}
 use Rattle.certtext.specs.Fields.{bounds_in, core_in, cert_in, label_in, cause_in, unbalanced_in, behind_word, refused_in, word_in, said_in}
 
 pub some_inj : {A : Type 0} {x y : A} → Some x ≡ Some y → x ≡ y

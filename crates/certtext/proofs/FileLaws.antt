@@ -1,5 +1,5 @@
 -- What the lines of a text say of it as a certificate file.
-use Rattle.std.proofs.Common.{◌≡◌, ◌≢◌, ℕ, suc, ◌+◌, ◌<◌, Bool, true, false, List, [], ◌∷◌, ◌++◌, length, map}
+use Rattle.std.proofs.Common.{◌≡◌, ℕ, suc, ◌+◌, Bool, false, List, [], ◌∷◌, ◌++◌, length, map}
 use Rattle.std.proofs.Common.{Option, Some, None, Result, Ok, Err, refl, sym, ap, ◌∙◌, arith, subst, append_assoc}
 use Rattle.std.specs.Prelude.{IfOk, IfErr, IsTrue}
 use Rattle.std.specs.List.{AllByRecursion}
@@ -7,7 +7,7 @@ use Rattle.std.proofs.lemmas.List.{append-nil, length-append}
 use Rattle.textline.specs.Lines.{Lacks, text_of}
 use Rattle.textline.proofs.Printed.{cut_once}
 use Rattle.certtext.specs.declared.edition.Edition.{Edition}
-use Rattle.certtext.specs.declared.edition.Edition.TheVariants.{First, Second}
+use Rattle.certtext.specs.declared.edition.Edition.TheVariants.{First}
 use Rattle.certtext.specs.declared.fault.CertsFault.{CertsFault}
 use Rattle.certtext.specs.declared.fault.CertsFault.TheVariants.{Line, Memory}
 use Rattle.certtext.specs.declared.order.Place.{Place}
@@ -15,11 +15,11 @@ use Rattle.certtext.specs.declared.read.CertFile.{CertFile}
 use Rattle.certtext.specs.declared.saying.Saying.{Saying}
 use Rattle.certtext.specs.Texts.{edition_text, saying_text, Fits}
 use Rattle.certtext.specs.Order.{start, MayCome, next, InOrder, place_behind}
-use Rattle.certtext.specs.Files.{AreSaid, file_lines, IsFile, AreFile, IsFront, IsFirstBad, IsFaultOf}
-use Rattle.certtext.specs.Reading.{IsSoFar, IsRest, NoNext, FailsAt, Fails, LacksEdition, FailsFirst}
+use Rattle.certtext.specs.Files.{file_lines, IsFile, IsFirstBad, IsFaultOf}
+use Rattle.certtext.specs.Reading.{IsSoFar, IsRest, FailsAt, Fails, LacksEdition, FailsFirst}
 use Rattle.certtext.specs.Certs.{IsSaidOf, AreRead, Gives}
 use Rattle.certtext.proofs.FieldLaws.{text_lacks, one_saying, one_edition, edition_lacks}
-use Rattle.certtext.proofs.OrderLaws.{order_push, order_append, order_at, place_push, place_append, GoesOn, goes_on, first_on}
+use Rattle.certtext.proofs.OrderLaws.{order_push, order_append, order_at, place_push, place_append, goes_on, first_on}
 
 -- ---- texts cut at line ends
 
@@ -238,8 +238,7 @@ front_text first lines left =
 told_again : (edition other : Edition) (said told : List Saying) → AllByRecursion (Fits edition) said → AllByRecursion (Fits other) told
     → file_lines edition said ≡ file_lines other told → (edition ≡ other) × (said ≡ told)
 told_again edition other said told a b e =
-    let first = one_edition edition other (cc) in
-    (
+    let first = one_edition edition other (cc) in (
       first,
       same_said edition said told a (subst (λ (x : Edition). AllByRecursion (Fits x) told) (sym first) b)
           ((let h : map (saying_text edition) said ≡ map (saying_text other) told = cc in h)

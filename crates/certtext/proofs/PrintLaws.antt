@@ -1,9 +1,9 @@
 -- A printed file says the certificates that were printed.
-use Rattle.std.proofs.Common.{◌≡◌, ◌≢◌, ℕ, zero, suc, ◌<◌, ◌≤◌, ◌==◌, cond, List, [], ◌∷◌, ◌++◌, map}
+use Rattle.std.proofs.Common.{◌≡◌, ℕ, zero, suc, ◌<◌, List, [], ◌∷◌, ◌++◌, map}
 use Rattle.std.proofs.Common.{Option, Some, None, Result, Ok, Err, refl, sym, ap, ◌∙◌, arith, subst, append_assoc}
 use Rattle.std.specs.Prelude.{IsSome, IfSome}
 use Rattle.std.proofs.lemmas.List.{append-nil}
-use Rattle.std.specs.List.{AllByRecursion, flat_map}
+use Rattle.std.specs.List.{AllByRecursion}
 use Rattle.textline.specs.Lines.{text_of}
 use Rattle.corestep.specs.declared.table.Table.{Table}
 use Rattle.certtext.specs.declared.cert.Cert.{Cert}
@@ -11,7 +11,7 @@ use Rattle.certtext.specs.declared.cert.CertLine.{CertLine}
 use Rattle.certtext.specs.declared.cert.CertLine.TheVariants as line
 use Rattle.certtext.specs.declared.cert.Label.{Label}
 use Rattle.certtext.specs.declared.edition.Edition.{Edition}
-use Rattle.certtext.specs.declared.edition.Edition.TheVariants.{First, Second}
+use Rattle.certtext.specs.declared.edition.Edition.TheVariants.{Second}
 use Rattle.certtext.specs.declared.fault.CertsFault.{CertsFault}
 use Rattle.certtext.specs.declared.fault.CertsFault.TheVariants.{Line, Memory}
 use Rattle.certtext.specs.declared.order.Before.{Before}
@@ -19,12 +19,12 @@ use Rattle.certtext.specs.declared.order.Before.TheVariants as before
 use Rattle.certtext.specs.declared.order.Place.{Place}
 use Rattle.certtext.specs.declared.read.CertFile.{CertFile}
 use Rattle.certtext.specs.declared.saying.Saying.{Saying}
-use Rattle.certtext.specs.declared.saying.Saying.TheVariants.{Core, Certified, Labelled, Refused, Unbalanced}
+use Rattle.certtext.specs.declared.saying.Saying.TheVariants.{Core, Certified, Labelled, Refused}
 use Rattle.certtext.specs.Texts.{saying_text, core_text, edition_text, Fits}
-use Rattle.certtext.specs.Order.{start, MayName, MayLabel, MayTell, next, behind_region, InOrder, place_behind}
-use Rattle.certtext.specs.Files.{AreSaid, file_lines, IsFile}
-use Rattle.certtext.specs.Certs.{names, of_core, first_labels, certs_in, left_out, IsSaidOf, Gives, cert_lines, region_lines, certs_lines}
-use Rattle.certtext.specs.Certs.{certs_text, LabelFits, LabelsAscend, IsCert, IsLine, region_of, RegionsAscend, AreCerts, IsPrinted, lines_of_core}
+use Rattle.certtext.specs.Order.{start, MayName, MayLabel, next, behind_region, InOrder, place_behind}
+use Rattle.certtext.specs.Files.{IsFile}
+use Rattle.certtext.specs.Certs.{of_core, first_labels, certs_in, left_out, IsSaidOf, Gives, region_lines, certs_lines}
+use Rattle.certtext.specs.Certs.{certs_text, LabelFits, LabelsAscend, IsLine, region_of, RegionsAscend, AreCerts, IsPrinted, lines_of_core}
 use Rattle.certtext.proofs.FileLaws.{all_append, map_append}
 use Rattle.certtext.proofs.OrderLaws.{place_append}
 
@@ -151,11 +151,15 @@ behind_none (l ∷ lines) = tt
 
 file_order : (table : Table) (zeros one : List CertLine) → AreCerts table zeros → AreCerts table one
     → InOrder start (file_said zeros one)
-file_order table zeros one z o =
-    (refl, certs_order table (next start (Core 0)) 0 zeros (Core 1 ∷ certs_said one) z.each z.ascend refl (behind_none zeros)
-    (λ q e. (subst (λ (n : Option ℕ). MayName n 1) (sym e) (refl, refl),
-    subst (InOrder (next q (Core 1))) (append-nil (certs_said one))
-    (certs_order table (next q (Core 1)) 1 one [] o.each o.ascend refl (behind_none one) (λ p same. tt)))))
+file_order table zeros one z o = (
+  refl,
+  certs_order table (next start (Core 0)) 0 zeros (Core 1 ∷ certs_said one) z.each z.ascend refl (behind_none zeros)
+      (λ q e. (
+        subst (λ (n : Option ℕ). MayName n 1) (sym e) (refl, refl),
+        subst (InOrder (next q (Core 1))) (append-nil (certs_said one))
+            (certs_order table (next q (Core 1)) 1 one [] o.each o.ascend refl (behind_none one) (λ p same. tt)),
+      )),
+)
 
 labels_core : (p : Place) (labels : List Label) → (place_behind p (labels_said labels)).core ≡ p.core
 unfolding labels_said

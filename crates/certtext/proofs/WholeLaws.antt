@@ -1,5 +1,5 @@
 -- The certificates that are read are whole: their numbers are in their ranges, and regions and labels ascend.
-use Rattle.std.proofs.Common.{◌≡◌, ℕ, ◌+◌, ◌<◌, ◌≤◌, ◌==◌, Bool, true, false, cond, List, [], ◌∷◌, Option, Some, None, refl, arith}
+use Rattle.std.proofs.Common.{ℕ, ◌<◌, Bool, true, false, cond, List, [], ◌∷◌, Option, Some, None, refl, arith}
 use Rattle.std.specs.Prelude.{IfSome, IfOk}
 use Rattle.std.specs.List.{AllByRecursion}
 use Rattle.std.proofs.Common.{Result, Ok, Err, subst, sym}
@@ -20,7 +20,7 @@ use Rattle.certtext.specs.Texts.{table_of, Fits, BoundsFit, InBounds}
 use Rattle.certtext.specs.Order.{start, MayLabel, next, behind_region, InOrder}
 use Rattle.certtext.specs.Certs.{names, of_core, first_labels, certs_in, LabelFits, LabelsAscend, IsLine, region_of, RegionsAscend, AreCerts}
 use Rattle.certtext.specs.Certs.{AreRead}
-use Rattle.certtext.proofs.PrintLaws.{LabelsBehind, RegionsBehind, behind_none}
+use Rattle.certtext.proofs.PrintLaws.{LabelsBehind, RegionsBehind}
 
 bounds_whole : (edition : Edition) (l m : ℕ) → BoundsFit edition l m → InBounds l m
 bounds_whole First l m h = (omega (arith, h.0), h.1)

@@ -1,5 +1,5 @@
 -- The certificates that the lines of a core say, and the text of a file of certificates: this project's own.
-use Rattle.std.specs.Prelude.{◌≡◌, ℕ, ◌+◌, ◌<◌, ◌≤◌, ◌==◌, ◌^◌, Bool, false, if◌then◌else◌, List, [], ◌∷◌, ◌++◌, map, Result, Ok, Err}
+use Rattle.std.specs.Prelude.{◌≡◌, ℕ, ◌+◌, ◌<◌, ◌==◌, ◌^◌, Bool, false, if◌then◌else◌, List, [], ◌∷◌, ◌++◌, map, Result, Ok, Err}
 use Rattle.std.specs.List.{AllByRecursion, flat_map}
 use Rattle.textline.specs.Lines.{text_of}
 use Rattle.corestep.specs.declared.table.Table.{Table}
@@ -8,7 +8,7 @@ use Rattle.certtext.specs.declared.cert.CertLine.{CertLine}
 use Rattle.certtext.specs.declared.cert.CertLine.TheVariants as line
 use Rattle.certtext.specs.declared.cert.Label.{Label}
 use Rattle.certtext.specs.declared.edition.Edition.{Edition}
-use Rattle.certtext.specs.declared.edition.Edition.TheVariants.{First, Second}
+use Rattle.certtext.specs.declared.edition.Edition.TheVariants.{Second}
 use Rattle.certtext.specs.declared.fault.CertsFault.{CertsFault}
 use Rattle.certtext.specs.declared.fault.CertsFault.TheVariants.{Line, Memory}
 use Rattle.certtext.specs.declared.read.CertFile.{CertFile}

@@ -7,8 +7,6 @@ use Rattle.textline.specs.Numbers.{decimal_in}
 use Rattle.corestep.specs.declared.table.Table.TheVariants.{One, Two}
 use Rattle.certtext.specs.declared.cert.Cause.{Cause}
 use Rattle.certtext.specs.declared.cert.Cause.TheVariants.{Touches, Unbounded, Crossed, Long}
-use Rattle.certtext.specs.declared.cert.Label.{Label}
-use Rattle.certtext.specs.declared.cert.Refusal.{Refusal}
 use Rattle.certtext.specs.declared.edition.Edition.{Edition}
 use Rattle.certtext.specs.declared.edition.Edition.TheVariants.{First, Second}
 use Rattle.certtext.specs.declared.saying.Saying.{Saying}

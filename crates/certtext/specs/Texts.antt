@@ -1,5 +1,5 @@
 -- What each line of a certificate file says, and its text in both editions: this project's own.
-use Rattle.std.specs.Prelude.{◌≡◌, ℕ, ◌<◌, ◌≤◌, ◌^◌, List, [], ◌∷◌, ◌++◌, codes}
+use Rattle.std.specs.Prelude.{◌≡◌, ℕ, ◌<◌, ◌≤◌, ◌^◌, List, ◌++◌, codes}
 use Rattle.std.specs.Fmt.{decimal}
 use Rattle.corestep.specs.declared.table.Table.{Table}
 use Rattle.corestep.specs.declared.table.Table.TheVariants.{One, Two}

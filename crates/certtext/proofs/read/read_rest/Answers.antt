@@ -1,5 +1,5 @@
 -- A line that can't come next, or too early an end.
-use Rattle.std.proofs.Common.{◌≡◌, ◌∙◌, None, refl, sym, ap, subst}
+use Rattle.std.proofs.Common.{◌∙◌, None, refl, sym, ap, subst}
 use Rattle.certtext.specs.Reading.{IsSoFar}
 use Rattle.certtext.proofs.FileLaws.{untrue, so_far_more, place_more, fails_at_end, fails_at_line}
 use Rattle.certtext.proofs.read.read_rest.Goals as goal

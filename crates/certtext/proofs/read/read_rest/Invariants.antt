@@ -1,5 +1,5 @@
 -- The lines so far, and what is left.
-use Rattle.std.proofs.Common.{◌≡◌, ◌<◌, ◌^◌, length}
+use Rattle.std.proofs.Common.{◌≡◌, length}
 use Rattle.certtext.specs.Order.{start, place_behind}
 use Rattle.certtext.specs.Reading.{IsSoFar}
 use Rattle.certtext.proofs.read.read_rest.Given as goal

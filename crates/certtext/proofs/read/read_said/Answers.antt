@@ -1,7 +1,7 @@
 -- A fault of a part is one of the text.
 use Rattle.std.proofs.Common.{ap}
 use Rattle.std.proofs.lemmas.Result.{err_from_is_err_and}
-use Rattle.certtext.proofs.FileLaws.{first_fault, rest_fault, whole_file}
+use Rattle.certtext.proofs.FileLaws.{first_fault, rest_fault}
 use Rattle.certtext.proofs.read.read_said.Goals as goal
 
 pub returns-in_err-edition-clause-fault : goal.returns-in_err-edition-clause-fault
