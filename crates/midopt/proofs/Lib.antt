@@ -8,3 +8,4 @@ pub mod Whole
 pub mod Removed
 pub mod MarkLemmas
 pub mod SweepLemmas
+pub mod Samples
