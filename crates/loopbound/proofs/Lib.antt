@@ -2,3 +2,4 @@ pub mod EachLemmas
 pub mod SoundLemmas
 pub mod ExactLemmas
 pub mod TightLemmas
+pub mod BoundsLemmas

@@ -73,7 +73,7 @@ none_runs : (a : Bool) (n k : ℕ) (turn : Option Bounds) → k ≡ 0 → Runs a
 none_runs false n k turn is = is
 none_runs true n k turn is = inl is
 
-none_running : (w : ℕ) (k : Loop → ℕ) (loops : List TimedLoop) → NoneTurned (shapes loops) k → Running loops w k
+pub none_running : (w : ℕ) (k : Loop → ℕ) (loops : List TimedLoop) → NoneTurned (shapes loops) k → Running loops w k
 none_running w k [] none = tt
 none_running w k (l ∷ loops) none =
     (none_runs (holds l.shape w) l.shape.turns (k l.shape) l.turn none.0, none_running w k loops none.1)

@@ -26,3 +26,15 @@ pub data Path (Takes : Step → ℕ → Type 0) (Has : Step → Type 0) (loops :
   step : (s : Step) (k after : Loop → ℕ) (sum cycles : ℕ) → Path Takes Has loops entry s.from k sum → Has s → Takes s cycles
       → Counts loops s.from s.to k after
       → Path Takes Has loops entry s.to after (sum + cycles)
+
+-- the sums at a word over paths whose loops are in their first turns
+pub record Shares (Has : Step → Type 0) (loops : List Loop) (entry word sum : ℕ) : Type 0 where
+  pub counts : Loop → ℕ
+  pub path : Path Within Has loops entry word counts sum
+  pub first_turns : NoneTurned loops counts
+
+-- the least and the greatest of some numbers
+pub record AreBounds (IsOne : ℕ → Type 0) (b : Bounds) : Type 0 where
+  pub has_least : IsOne b.least
+  pub has_most : IsOne b.most
+  pub within : (n : ℕ) → IsOne n → (b.least ≤ n) × (n ≤ b.most)

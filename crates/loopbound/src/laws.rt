@@ -1,11 +1,12 @@
 //! What bounds along paths are.
 
-ghost use Rattle.std.specs.Prelude.{◌+◌, List, ℕ, IsSome, Contains};
+ghost use Rattle.std.specs.Prelude.{◌≡◌, ◌+◌, ◌≤◌, List, ℕ, IsSome, Contains};
+ghost use Rattle.loopbound.specs.declared.graph.Bounds.{Bounds};
 ghost use Rattle.loopbound.specs.declared.graph.Loop.{Loop};
 ghost use Rattle.loopbound.specs.declared.graph.Step.{Step};
 ghost use Rattle.loopbound.specs.declared.graph.TimedLoop.{TimedLoop};
 ghost use Rattle.loopbound.specs.declared.graph.Side.{Side};
-ghost use Rattle.loopbound.specs.Path.{Path, Within, Exactly};
+ghost use Rattle.loopbound.specs.Path.{Path, Within, Exactly, Shares, AreBounds};
 ghost use Rattle.loopbound.specs.Table.{Labels, Fits, Tight, Nested, Running, Bounded, shapes, side_of, taken};
 
 /// Bounds that each step keeps are bounds of each path: where a loop has turned k times in a path, the sum has k of its turns.
@@ -23,4 +24,13 @@ pub fn exactness()
         → Nested (Contains steps) loops entry → Fits (Contains steps) loops label entry → Tight (Contains steps) loops label entry side
         → IsSome (label w) → Running loops w k
         → Path (Exactly side) (Contains steps) (shapes loops) entry w k (side_of side (label w) + taken side k loops) }
+{}
+
+/// In a table that fits and is tight on both sides, the label of a word has the least and the greatest sum there in first turns.
+pub fn exact_labels()
+    ensures { (steps : List Step) (loops : List TimedLoop) (label : Labels) (entry w : ℕ) (b : Bounds)
+        → ((s : Step) → Contains steps s → s.cost.least ≤ s.cost.most)
+        → Nested (Contains steps) loops entry → Fits (Contains steps) loops label entry
+        → Tight (Contains steps) loops label entry Side.Least → Tight (Contains steps) loops label entry Side.Most
+        → label w ≡ Some b → AreBounds (Shares (Contains steps) (shapes loops) entry w) b }
 {}

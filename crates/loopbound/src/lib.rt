@@ -8,7 +8,7 @@ mod sums;
 
 pub use graph::{Bounds, Loop, Move, Side, Step, TimedLoop};
 pub use judge::{fits, keeps_bounds, label_of, meets, tight};
-pub use laws::{exactness, soundness};
+pub use laws::{exact_labels, exactness, soundness};
 pub use sums::{can_go, dues, gains, have_turns, turns_none};
 
 #[cfg(test)]

@@ -129,6 +129,7 @@ fn call_in_a_loop(rt: HostRuntime) {
 fn laws_and_parts(rt: HostRuntime) {
     soundness();
     exactness();
+    exact_labels();
     let turn = step(2, 1, 2);
     let loops = [timed(1, 2, 2, 3, one(3))];
     let labels = [one(0), one(1), one(2)];
