@@ -253,10 +253,12 @@ said_back edition (word ∷ fields) s e = word_back edition word fields s e
 refused_there : (edition : Edition) (region pc : ℕ) (c : Cause) → pc < 2 ^ 16
     → behind_word edition region (cause_text c) (decimal pc ∷ []) ≡ Some (Refused region (record { cause = c; pc = pc }))
 unfolding behind_word cause_in
-refused_there edition region pc Touches h = some_bind (alone 65535 (decimal pc ∷ [])) pc _ (alone_there 65535 pc (omega arith) (omega arith))
+refused_there edition region pc Touches h = some_bind (alone 65535 (decimal pc ∷ [])) pc _ (alone_there 65535 pc (omega arith) (omega
+    arith))
 refused_there edition region pc Unbounded h =
     some_bind (alone 65535 (decimal pc ∷ [])) pc _ (alone_there 65535 pc (omega arith) (omega arith))
-refused_there edition region pc Crossed h = some_bind (alone 65535 (decimal pc ∷ [])) pc _ (alone_there 65535 pc (omega arith) (omega arith))
+refused_there edition region pc Crossed h = some_bind (alone 65535 (decimal pc ∷ [])) pc _ (alone_there 65535 pc (omega arith) (omega
+    arith))
 refused_there edition region pc Long h = some_bind (alone 65535 (decimal pc ∷ [])) pc _ (alone_there 65535 pc (omega arith) (omega arith))
 
 said_there : (edition : Edition) (s : Saying) → Fits edition s → said_in edition (saying_fields edition s) ≡ Some s

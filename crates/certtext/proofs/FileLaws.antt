@@ -230,7 +230,8 @@ first_bad text at place none =
     }
 
 -- the front of a file
-front_text : (first : List ℕ) (lines : List (List ℕ)) (left : List ℕ) → first ++ 10 ∷ (text_of lines ++ left) ≡ text_of (first ∷ lines) ++ left
+front_text : (first : List ℕ) (lines : List (List ℕ)) (left : List ℕ) → first ++ 10 ∷ (text_of lines ++ left) ≡ text_of (first ∷ lines) ++
+    left
 front_text first lines left =
     sym (line_front first (text_of lines ++ left)) ∙ sym (append_assoc (first ++ 10 ∷ []) (text_of lines) left)
 

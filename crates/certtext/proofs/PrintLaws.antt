@@ -94,7 +94,8 @@ certs_fit : (table : Table) (lines : List CertLine) → AllByRecursion (IsLine t
     → AllByRecursion (Fits (Second table)) (certs_said lines)
 unfolding certs_said
 certs_fit table [] h = tt
-certs_fit table (l ∷ lines) h = all_append (Fits (Second table)) (region_said l) (certs_said lines) (region_fits table l h.0) (certs_fit table lines h.1)
+certs_fit table (l ∷ lines) h = all_append (Fits (Second table)) (region_said l) (certs_said lines) (region_fits table l h.0) (certs_fit
+    table lines h.1)
 
 -- ---- its order
 
@@ -189,7 +190,11 @@ printed_file table zeros one z o = record {
   are = record {
     fits = (
       omega arith,
-      all_append (Fits (Second table)) (certs_said zeros) (Core 1 ∷ certs_said one) (certs_fit table zeros z.each) (omega arith, certs_fit table one o.each),
+      all_append (Fits (Second table)) (certs_said zeros) (Core 1 ∷ certs_said one) (certs_fit table zeros z.each) (
+        omega arith,
+        certs_fit
+            table one o.each,
+      ),
     );
     order = file_order table zeros one z o;
     whole = file_whole zeros one;

@@ -18,7 +18,8 @@ use Rattle.certtext.specs.declared.saying.Saying.{Saying}
 use Rattle.certtext.specs.declared.saying.Saying.TheVariants.{Core, Certified, Labelled, Refused, Unbalanced}
 use Rattle.certtext.specs.Texts.{table_of, Fits, BoundsFit, InBounds}
 use Rattle.certtext.specs.Order.{start, MayLabel, next, behind_region, InOrder}
-use Rattle.certtext.specs.Certs.{names, of_core, first_labels, certs_in, LabelFits, LabelsAscend, IsLine, region_of, RegionsAscend, AreCerts}
+use Rattle.certtext.specs.Certs.{names, of_core, first_labels, certs_in, LabelFits, LabelsAscend, IsLine, region_of, RegionsAscend}
+use Rattle.certtext.specs.Certs.{AreCerts}
 use Rattle.certtext.specs.Certs.{AreRead}
 use Rattle.certtext.proofs.PrintLaws.{LabelsBehind, RegionsBehind}
 

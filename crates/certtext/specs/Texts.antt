@@ -50,7 +50,8 @@ refused_text region r = codes "none " ++ (decimal region ++ (codes " " ++ refusa
 
 abbrev pub unbalanced_text : ℕ → ℕ → ℕ → ℕ → List ℕ
 unbalanced_text region pc first second =
-    codes "none " ++ (decimal region ++ (codes " unbalanced " ++ (decimal pc ++ (codes " " ++ (decimal first ++ (codes " " ++ decimal second))))))
+    codes "none " ++ (decimal region ++ (codes " unbalanced " ++ (decimal pc ++ (codes " " ++ (decimal first ++ (codes " " ++ decimal
+    second))))))
 
 abbrev pub core_text : ℕ → List ℕ
 core_text core = codes "core " ++ decimal core

@@ -38,8 +38,10 @@ fn certificates_are_read_in_both_editions(rt: HostRuntime) -> Result<(), Fail> {
             1,
         ),
         (
-            b"certs 2 2\ncore 0\ncert 0 3 4\nat 0 0 0 0\nat 0 3 2 3\nat 1 2 0 9\nnone 7 touches 1\ncore 1\nnone 0 crossed 8\nnone 1 unbounded 0\n",
-            b"certs 2 2\ncore 0\ncert 0 3 4\nat 0 0 0 0\nat 0 3 2 3\nat 1 2 0 9\nnone 7 touches 1\ncore 1\nnone 0 crossed 8\nnone 1 unbounded 0\n",
+            b"certs 2 2\ncore 0\ncert 0 3 4\nat 0 0 0 0\nat 0 3 2 3\nat 1 2 0 9\n\
+                none 7 touches 1\ncore 1\nnone 0 crossed 8\nnone 1 unbounded 0\n",
+            b"certs 2 2\ncore 0\ncert 0 3 4\nat 0 0 0 0\nat 0 3 2 3\nat 1 2 0 9\n\
+                none 7 touches 1\ncore 1\nnone 0 crossed 8\nnone 1 unbounded 0\n",
             0,
         ),
     ] {

@@ -28,7 +28,8 @@ fn label_at(labels: &[Option<Bounds>], word: usize) -> Option<Bounds>
 
 /// The label that a step comes from, with its cycles and the turns of the loops that it leaves.
 fn sum_before(side: Side, step: &Step, loops: &[TimedLoop], labels: &[Option<Bounds>]) -> u128
-    ensures { result ≡ side_of side (label_in labels.now step.now.from) + at side step.now.cost + gains side step.now.from step.now.to loops.now }
+    ensures { result
+        ≡ side_of side (label_in labels.now step.now.from) + at side step.now.cost + gains side step.now.from step.now.to loops.now }
 {
     u128::from(side_of(side, label_of(labels, step.from)))
         + u128::from(step.cost.at(side))
