@@ -5,7 +5,6 @@ use Rattle.std.specs.List.{AllByRecursion, IsDistinct, list_all, list_any}
 use Rattle.std.proofs.lemmas.Bool.{eqb-true}
 use Rattle.std.proofs.lemmas.List.Sums.{AllPass-from_list_all}
 use Rattle.std.proofs.lemmas.Map.Views.{Contains-from_any}
-use Rattle.isa.specs.declared.inst.Inst.{Inst}
 use Rattle.isa.specs.declared.inst.Inst.TheVariants as inst
 use Rattle.isa.specs.declared.control.Jump.TheVariants as jump
 use Rattle.isa.specs.declared.field.Operand.TheVariants as operand
@@ -15,7 +14,7 @@ use Rattle.isa.specs.declared.note.NoteKind.TheVariants.{Return}
 use Rattle.isa.specs.declared.program.Item.{Item}
 use Rattle.isa.specs.declared.program.Item.TheVariants as item
 use Rattle.isa.specs.Note.{is_access}
-use Rattle.isa.specs.Program.{IsWhole, labels, used, is_formed, LoopsEndBehind, NotesStand, may_rest, may_aim}
+use Rattle.isa.specs.Program.{labels, used, is_formed, LoopsEndBehind, NotesStand, may_rest, may_aim}
 use Rattle.corerun.specs.Items.{placed}
 use Rattle.helpers.specs.Bodies.{multiplication, divided_unsigned, rest_unsigned, divided_signed, rest_signed, back, return_field}
 use Rattle.helpers.specs.Bodies.{multiplied, divided, quotient_moved, quotient_sign, magnitudes, negated, calculated}
@@ -100,22 +99,203 @@ rest_shape items is =
 pub signed_quotient_shape : (items : List Item) → items ≡ divided_signed → HasShape 27 items
 unfolding IsDistinct
 signed_quotient_shape items is =
-    shape (quotient_sign ++ (magnitudes ++ (divided ++ (quotient_moved ∷ negated 14 19 8 9)))) items 27 is refl
-    ((refl, (refl, (refl, (refl, (refl, (refl, (refl, (refl, (refl, tt))))))))), ((refl, (refl, (refl, (refl, (refl, (refl,
-    (refl, (refl, tt)))))))), ((refl, (refl, (refl, (refl, (refl, (refl, (refl, tt))))))), ((refl, (refl, (refl, (refl, (refl,
-    (refl, tt)))))), ((refl, (refl, (refl, (refl, (refl, tt))))), ((refl, (refl, (refl, (refl, tt)))), ((refl, (refl, (refl,
-    tt))), ((refl, (refl, tt)), ((refl, tt), (tt, tt))))))))))
-    refl (contains 0 (1 ∷ 0 ∷ 8 ∷ 9 ∷ []) refl, tt) refl refl
-    (refl, (refl, (refl, (refl, (refl, (refl, (refl, (refl, (refl, (refl, (refl, (refl, (refl, (refl, (refl, (refl, (refl,
-    (refl, (refl, (refl, (refl, (refl, (refl, (refl, (refl, (refl, (refl, tt)))))))))))))))))))))))))))
+    shape (quotient_sign ++ (magnitudes ++ (divided ++ (quotient_moved ∷ negated 14 19 8 9)))) items 27 is refl (
+      (refl, (refl, (refl, (refl, (refl, (refl, (refl, (refl, (refl, tt))))))))),
+      (
+        (
+          refl,
+          (
+            refl,
+            (
+              refl,
+              (
+                refl,
+                (
+                  refl,
+                  (
+                    refl,
+                    (refl, (refl, tt)),
+                  ),
+                ),
+              ),
+            ),
+          ),
+        ),
+        (
+          (refl, (refl, (refl, (refl, (refl, (refl, (refl, tt))))))),
+          (
+            (
+              refl,
+              (
+                refl,
+                (
+                  refl,
+                  (
+                    refl,
+                    (
+                      refl,
+                      (refl, tt),
+                    ),
+                  ),
+                ),
+              ),
+            ),
+            (
+              (refl, (refl, (refl, (refl, (refl, tt))))),
+              (
+                (refl, (refl, (refl, (refl, tt)))),
+                (
+                  (
+                    refl,
+                    (
+                      refl,
+                      (
+                        refl,
+                        tt,
+                      ),
+                    ),
+                  ),
+                  ((refl, (refl, tt)), ((refl, tt), (tt, tt))),
+                ),
+              ),
+            ),
+          ),
+        ),
+      ),
+    )
+    refl (contains 0 (1 ∷ 0 ∷ 8 ∷ 9 ∷ []) refl, tt) refl refl (
+      refl,
+      (
+        refl,
+        (
+          refl,
+          (
+            refl,
+            (
+              refl,
+              (
+                refl,
+                (
+                  refl,
+                  (
+                    refl,
+                    (
+                      refl,
+                      (
+                        refl,
+                        (
+                          refl,
+                          (
+                            refl,
+                            (
+                              refl,
+                              (
+                                refl,
+                                (
+                                  refl,
+                                  (
+                                    refl,
+                                    (
+                                      refl,
+                                      (refl, (refl, (refl, (refl, (refl, (refl, (refl, (refl, (refl, (refl, tt)))))))))),
+                                    ),
+                                  ),
+                                ),
+                              ),
+                            ),
+                          ),
+                        ),
+                      ),
+                    ),
+                  ),
+                ),
+              ),
+            ),
+          ),
+        ),
+      ),
+    )
 
 pub signed_rest_shape : (items : List Item) → items ≡ rest_signed → HasShape 23 items
 unfolding IsDistinct
 signed_rest_shape items is =
-    shape (calculated ops.Add 19 14 (operand.Imm 0) ∷ (magnitudes ++ (divided ++ negated 14 19 8 9))) items 23 is refl
-    ((refl, (refl, (refl, (refl, (refl, (refl, (refl, tt))))))), ((refl, (refl, (refl, (refl, (refl, (refl, tt)))))), ((refl,
-    (refl, (refl, (refl, (refl, tt))))), ((refl, (refl, (refl, (refl, tt)))), ((refl, (refl, (refl, tt))), ((refl, (refl,
-    tt)), ((refl, tt), (tt, tt))))))))
-    refl (contains 0 (1 ∷ 0 ∷ 8 ∷ 9 ∷ []) refl, tt) refl refl
-    (refl, (refl, (refl, (refl, (refl, (refl, (refl, (refl, (refl, (refl, (refl, (refl, (refl, (refl, (refl, (refl, (refl,
-    (refl, (refl, (refl, (refl, (refl, (refl, tt)))))))))))))))))))))))
+    shape (calculated ops.Add 19 14 (operand.Imm 0) ∷ (magnitudes ++ (divided ++ negated 14 19 8 9))) items 23 is refl (
+      (refl, (refl, (refl, (refl, (refl, (refl, (refl, tt))))))),
+      (
+        (refl, (refl, (refl, (refl, (refl, (refl, tt)))))),
+        (
+          (
+            refl,
+            (refl, (refl, (refl, (refl, tt)))),
+          ),
+          (
+            (refl, (refl, (refl, (refl, tt)))),
+            (
+              (refl, (refl, (refl, tt))),
+              (
+                (
+                  refl,
+                  (
+                    refl,
+                    tt,
+                  ),
+                ),
+                ((refl, tt), (tt, tt)),
+              ),
+            ),
+          ),
+        ),
+      ),
+    )
+    refl (contains 0 (1 ∷ 0 ∷ 8 ∷ 9 ∷ []) refl, tt) refl refl (
+      refl,
+      (
+        refl,
+        (
+          refl,
+          (
+            refl,
+            (
+              refl,
+              (
+                refl,
+                (
+                  refl,
+                  (
+                    refl,
+                    (
+                      refl,
+                      (
+                        refl,
+                        (
+                          refl,
+                          (
+                            refl,
+                            (
+                              refl,
+                              (
+                                refl,
+                                (
+                                  refl,
+                                  (
+                                    refl,
+                                    (
+                                      refl,
+                                      (refl, (refl, (refl, (refl, (refl, (refl, tt)))))),
+                                    ),
+                                  ),
+                                ),
+                              ),
+                            ),
+                          ),
+                        ),
+                      ),
+                    ),
+                  ),
+                ),
+              ),
+            ),
+          ),
+        ),
+      ),
+    )

@@ -1,4 +1,4 @@
-use Rattle.std.proofs.Common.{◌≡◌, ℕ, ◌∙◌, ap, refl, List, [], ◌∷◌}
+use Rattle.std.proofs.Common.{◌≡◌, ◌∙◌, ap, refl, [], ◌∷◌}
 use Rattle.isa.specs.declared.program.Item.{Item}
 use Rattle.helpers.proofs.Signed.{divs_computes}
 use Rattle.helpers.specs.Bodies.{divided_signed}
@@ -9,6 +9,6 @@ use Rattle.helpers.proofs.divide.divs.Goals as goal
 pub returns : goal.returns
 returns c =
     let items : c.new.result ≡ divided_signed = c.new.ensures ∙ grows _ _ _ _ _ c.in_ok-append_signed_end.ensures (grows _ _ _ _ _ c.in_ok-append-3.ensures
-    (grows _ _ _ _ _ c.in_ok-append-2.ensures (grows _ _ _ _ _ c.in_ok-append_magnitudes.ensures (grows _ _ _ _ _ c.in_ok-append.ensures c.new-items.ensures.items 
+    (grows _ _ _ _ _ c.in_ok-append-2.ensures (grows _ _ _ _ _ c.in_ok-append_magnitudes.ensures (grows _ _ _ _ _ c.in_ok-append.ensures c.new-items.ensures.items
     c.quotient_sign.ensures) refl) c.divided.ensures) (ap (λ (i : Item). i ∷ []) c.quotient_moved.ensures)) refl in
     record { computes = divs_computes c.new.result items; shape = signed_quotient_shape c.new.result items }

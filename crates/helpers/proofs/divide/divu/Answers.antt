@@ -1,4 +1,4 @@
-use Rattle.std.proofs.Common.{◌≡◌, ℕ, ◌∙◌, ap, List, [], ◌∷◌}
+use Rattle.std.proofs.Common.{◌≡◌, ◌∙◌, ap, [], ◌∷◌}
 use Rattle.isa.specs.declared.program.Item.{Item}
 use Rattle.helpers.proofs.Unsigned.{divu_computes}
 use Rattle.helpers.specs.Bodies.{divided_unsigned}

@@ -1,5 +1,4 @@
-use Rattle.std.proofs.Common.{◌≡◌, ℕ, ◌∙◌, ap, List, [], ◌∷◌}
-use Rattle.isa.specs.declared.program.Item.{Item}
+use Rattle.std.proofs.Common.{◌≡◌, ◌∙◌}
 use Rattle.helpers.proofs.Unsigned.{remu_computes}
 use Rattle.helpers.specs.Bodies.{rest_unsigned}
 use Rattle.helpers.proofs.Shapes.{rest_shape}

@@ -1,5 +1,4 @@
-use Rattle.std.proofs.Common.{◌≡◌, ℕ, ◌∙◌, ap, List, [], ◌∷◌}
-use Rattle.isa.specs.declared.program.Item.{Item}
+use Rattle.std.proofs.Common.{◌≡◌, ◌∙◌}
 use Rattle.helpers.proofs.Multiplying.{mul_computes}
 use Rattle.helpers.specs.Bodies.{multiplication}
 use Rattle.helpers.proofs.Shapes.{multiplication_shape}
