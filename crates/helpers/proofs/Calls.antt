@@ -1,12 +1,12 @@
 -- From the registers of a core to R14 to R19 and what lies round them, and back.
-use Rattle.std.proofs.Common.{◌≡◌, ℕ, zero, suc, ◌+◌, ◌-◌, ◌*◌, ◌%◌, ◌^◌, ◌<◌, ◌≤◌, List, [], ◌∷◌, ◌++◌, length, take, drop, get_or, refl}
-use Rattle.std.proofs.Common.{sym, ap, ◌∙◌, subst, arith, Option, Some, None, append_assoc, length-append, length-drop}
+use Rattle.std.proofs.Common.{◌≡◌, ℕ, suc, ◌+◌, ◌*◌, ◌%◌, ◌^◌, ◌≤◌, List, [], ◌∷◌, ◌++◌, length, take, drop, get_or, refl}
+use Rattle.std.proofs.Common.{sym, ap, ◌∙◌, subst, arith, None, length-append, length-drop}
 use Rattle.std.proofs.lemmas.List.{take_at, drop_at, drop-drop, length-take-le, take-append-drop, drop-append-le, take-append-le}
 use Rattle.prunum.specs.Bytes.{little_bytes, little_number}
 use Rattle.corestep.specs.Core.{State}
 use Rattle.corestep.specs.Fields.{bytes_at}
 use Rattle.corerun.specs.Code.{Code}
-use Rattle.helpers.specs.Runs.{StepsTo, RunsTo, here, on, Begins, Returns, Call, return_number, Holds}
+use Rattle.helpers.specs.Runs.{RunsTo, here, on, Begins, Call, return_number}
 use Rattle.helpers.proofs.Laid.{joined, Fours, laid, read_laid}
 use Rattle.helpers.proofs.Steps.{Sized, core, registers}
 

@@ -9,3 +9,4 @@ pub mod Unsigned
 pub mod Signs
 pub mod Signing
 pub mod Signed
+pub mod Shapes

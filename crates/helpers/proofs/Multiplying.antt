@@ -1,21 +1,19 @@
 -- The run of multiplication.
-use Rattle.std.proofs.lemmas.Bool.Decides.{nat_tests}
-use Rattle.std.proofs.Common.{◌≡◌, ℕ, zero, suc, ◌+◌, ◌-◌, ◌*◌, ◌/◌, ◌%◌, ◌^◌, ◌<◌, ◌≤◌, Bool, true, false, List, [], ◌∷◌, length, refl}
-use Rattle.std.proofs.Common.{sym, ap, ◌∙◌, subst, arith, Option, Some, None, ◌⊎◌, inl, inr}
+use Rattle.std.proofs.Common.{◌≡◌, ℕ, zero, suc, ◌+◌, ◌*◌, ◌/◌, ◌%◌, ◌^◌, ◌<◌, List, [], ◌∷◌, length, refl}
+use Rattle.std.proofs.Common.{ap, ◌∙◌, subst, arith, Option, Some, None, ◌⊎◌, inl, inr}
 use Rattle.std.specs.Prelude.{◌==◌}
 use Rattle.prunum.specs.Bytes.{little_bytes}
 use Rattle.isa.specs.declared.control.Condition.TheVariants as conditions
 use Rattle.isa.specs.declared.field.Operand.TheVariants as operand
 use Rattle.isa.specs.declared.inst.AluOp.TheVariants as ops
-use Rattle.corestep.specs.declared.onward.Onward.{Onward}
 use Rattle.corestep.specs.declared.onward.Turning.{Turning}
-use Rattle.corestep.specs.Core.{State, onward}
+use Rattle.corestep.specs.Core.{State}
 use Rattle.corerun.specs.Code.{Code}
 use Rattle.helpers.specs.Bodies.{multiplication, register, whole, unaimed, turns}
 use Rattle.isa.specs.declared.inst.Inst.TheVariants as inst
 use Rattle.isa.specs.declared.program.Item.{Item}
 use Rattle.helpers.specs.Numbers.{product}
-use Rattle.helpers.specs.Runs.{StandsAt, StepsTo, RunsTo, here, on, Computes, return_number}
+use Rattle.helpers.specs.Runs.{StandsAt, StepsTo, RunsTo, here, on, Computes}
 use Rattle.helpers.proofs.Steps as steps
 use Rattle.helpers.proofs.Steps.{Sized, Is, Reads, Here, at, first_here, loop, behind_turn, inside, turned, straight}
 use Rattle.helpers.proofs.Calls.{then_runs, called, Left}

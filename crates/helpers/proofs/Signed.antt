@@ -1,5 +1,5 @@
 -- The runs of division of two's complement.
-use Rattle.std.proofs.Common.{◌≡◌, ℕ, ◌+◌, ◌^◌, ◌<◌, List, [], ◌∷◌, ◌++◌, length, refl, ap, subst, arith, Option, Some, None}
+use Rattle.std.proofs.Common.{◌≡◌, ℕ, ◌+◌, ◌^◌, ◌<◌, List, [], ◌∷◌, ◌++◌, length, refl, ap, subst, arith, None}
 use Rattle.prunum.specs.Bytes.{little_bytes}
 use Rattle.prunum.specs.Number.{quot_u, rem_u, quot_s, rem_s}
 use Rattle.isa.specs.declared.field.Operand.TheVariants as operand
@@ -8,7 +8,7 @@ use Rattle.isa.specs.declared.inst.Inst.TheVariants as inst
 use Rattle.isa.specs.declared.program.Item.{Item}
 use Rattle.corestep.specs.Core.{State}
 use Rattle.corerun.specs.Code.{Code}
-use Rattle.corerun.specs.Items.{Placed, placed}
+use Rattle.corerun.specs.Items.{placed}
 use Rattle.helpers.specs.Bodies.{calculated, whole, negated, magnitudes, divided, divided_signed, rest_signed, quotient_sign, quotient_moved, back}
 use Rattle.helpers.specs.Runs.{StandsAt, StepsTo, RunsTo, here, on, Computes}
 use Rattle.helpers.proofs.Steps as steps

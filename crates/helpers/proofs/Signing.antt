@@ -1,6 +1,6 @@
 -- The pieces that see to signs.
-use Rattle.std.proofs.Common.{◌≡◌, ℕ, zero, suc, ◌+◌, ◌/◌, ◌%◌, ◌^◌, ◌<◌, Bool, true, false, List, [], ◌∷◌, length, get_or, set, refl, sym, ap}
-use Rattle.std.proofs.Common.{◌∙◌, subst, arith, Option, Some, None, T, ltb, lit<}
+use Rattle.std.proofs.Common.{◌≡◌, ℕ, zero, suc, ◌+◌, ◌^◌, ◌<◌, Bool, true, false, List, [], ◌∷◌, length, set, refl, sym, ap}
+use Rattle.std.proofs.Common.{◌∙◌, subst, arith, Some, None, T, ltb}
 use Rattle.std.specs.Prelude.{◌==◌, if◌then◌else◌, bit_xor}
 use Rattle.std.proofs.lemmas.List.{set-get_or}
 use Rattle.std.proofs.lemmas.Nat.{xor_lt}

@@ -1,6 +1,6 @@
 -- One step of a core whose registers R14 to R19 are given, an instruction at a time.
-use Rattle.std.proofs.Common.{◌≡◌, ℕ, zero, suc, ◌+◌, ◌-◌, ◌*◌, ◌%◌, ◌^◌, ◌<◌, ◌≤◌, Bool, true, false, List, [], ◌∷◌, ◌++◌, length}
-use Rattle.std.proofs.Common.{get_or, set, refl, sym, ap, subst, ◌∙◌, arith, Option, Some, None, lit<, T, ltb}
+use Rattle.std.proofs.Common.{◌≡◌, ℕ, zero, suc, ◌+◌, ◌-◌, ◌*◌, ◌%◌, ◌^◌, ◌<◌, ◌≤◌, Bool, true, false, List, [], ◌++◌, length}
+use Rattle.std.proofs.Common.{get_or, set, refl, ap, subst, ◌∙◌, arith, Option, Some, None, lit<, T, ltb}
 use Rattle.std.specs.Prelude.{◌==◌, nat_lt, nat_le, slice_get, option_map, if◌then◌else◌, unwrap_or}
 use Rattle.std.specs.Prelude.{◌&&◌}
 use Rattle.std.proofs.lemmas.Bool.{ne_eqb, le-leb, lt-ltb}
@@ -26,14 +26,14 @@ use Rattle.corestep.specs.declared.out.Stop.{Stop}
 use Rattle.corestep.specs.declared.out.Stop.TheVariants.{Going}
 use Rattle.corestep.specs.Compute.{computed, is_taken}
 use Rattle.corestep.specs.Core.{State, onward}
-use Rattle.corestep.specs.Effect.{Given, Effect, effect, shows}
+use Rattle.corestep.specs.Effect.{Given, effect, shows}
 use Rattle.corestep.specs.Fields.{bytes_at, with_bytes, field_reads, field_writes, with_field, field_value, operand_value, operand_reads}
 use Rattle.corestep.specs.Step.{Stepped, marks_before, marks_behind, stop_of}
-use Rattle.corerun.specs.Code.{Code, code_step, step_by_code, after_effect_in, goes_on_in}
+use Rattle.corerun.specs.Code.{Code, step_by_code, after_effect_in, goes_on_in}
 use Rattle.corerun.specs.Items.{Placed, placed, notes_of_placed}
 use Rattle.helpers.specs.Bodies.{whole, register, return_field}
-use Rattle.helpers.specs.Runs.{StandsAt, StepsTo, RunsTo, here, on, aim_in, return_number}
-use Rattle.helpers.proofs.Laid.{joined, Fours, laid, read_laid, with_laid, read_back}
+use Rattle.helpers.specs.Runs.{StandsAt, StepsTo, aim_in, return_number}
+use Rattle.helpers.proofs.Laid.{Fours, laid, read_laid, with_laid, read_back}
 
 -- ---- what stands at a place
 

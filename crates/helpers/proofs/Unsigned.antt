@@ -1,14 +1,14 @@
 -- The runs of division without sign.
-use Rattle.std.proofs.Common.{◌≡◌, ℕ, ◌+◌, ◌^◌, ◌<◌, List, [], ◌∷◌, length, refl, subst, arith, Option, Some, None}
+use Rattle.std.proofs.Common.{◌≡◌, ℕ, ◌+◌, ◌^◌, ◌<◌, List, [], ◌∷◌, length, refl, subst, arith, None}
 use Rattle.prunum.specs.Bytes.{little_bytes}
 use Rattle.prunum.specs.Number.{quot_u, rem_u}
 use Rattle.isa.specs.declared.field.Operand.TheVariants as operand
 use Rattle.isa.specs.declared.inst.AluOp.TheVariants as ops
 use Rattle.isa.specs.declared.program.Item.{Item}
 use Rattle.corerun.specs.Code.{Code}
-use Rattle.corerun.specs.Items.{Placed, placed}
+use Rattle.corerun.specs.Items.{placed}
 use Rattle.helpers.specs.Bodies.{divided, divided_unsigned, rest_unsigned, back, quotient_moved}
-use Rattle.helpers.specs.Runs.{StandsAt, RunsTo, here, on, Computes}
+use Rattle.helpers.specs.Runs.{StandsAt, here, on, Computes}
 use Rattle.helpers.proofs.Steps as steps
 use Rattle.helpers.proofs.Steps.{Sized, at, straight}
 use Rattle.helpers.proofs.Calls.{then_runs, called, Left}

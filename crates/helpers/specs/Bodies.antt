@@ -1,5 +1,5 @@
 -- The bodies as listings.
-use Rattle.std.specs.Prelude.{◌≡◌, ℕ, ◌+◌, ◌%◌, List, [], ◌∷◌, ◌++◌}
+use Rattle.std.specs.Prelude.{ℕ, ◌%◌, List, [], ◌∷◌, ◌++◌}
 use Rattle.isa.specs.declared.control.BranchOffset.{BranchOffset}
 use Rattle.isa.specs.declared.control.Condition.{Condition}
 use Rattle.isa.specs.declared.control.Condition.TheVariants as conditions

@@ -15,3 +15,11 @@ cycles_of DivU = 197
 cycles_of RemU = 196
 cycles_of DivS = 206
 cycles_of RemS = 203
+
+-- how many words a body has
+abbrev pub words_of : Helper → ℕ
+words_of Mul = 10
+words_of DivU = 14
+words_of RemU = 13
+words_of DivS = 27
+words_of RemS = 23

@@ -1,14 +1,12 @@
 -- What it is for a body of items to compute a number of R14 and R15, wherever it stands in a code.
-use Rattle.std.specs.Prelude.{◌≡◌, ℕ, zero, suc, ◌+◌, ◌*◌, ◌%◌, ◌^◌, ◌<◌, List, [], length, take, drop, slice_get, Option, Some, None}
+use Rattle.std.specs.Prelude.{◌≡◌, ℕ, suc, ◌+◌, ◌*◌, ◌%◌, ◌^◌, ◌<◌, List, [], length, take, drop, slice_get, Option, Some, None}
 use Rattle.std.specs.Prelude.{option_map, option_and_then}
 use Rattle.prunum.specs.Bytes.{little_bytes, little_number}
-use Rattle.isa.specs.declared.inst.Inst.{Inst}
 use Rattle.isa.specs.declared.program.Item.{Item}
 use Rattle.corestep.specs.declared.out.Stop.TheVariants.{Going}
 use Rattle.corestep.specs.Core.{State}
 use Rattle.corestep.specs.Effect.{Given}
 use Rattle.corestep.specs.Fields.{bytes_at}
-use Rattle.corestep.specs.Step.{Stepped}
 use Rattle.corerun.specs.Code.{Code, code_step}
 use Rattle.corerun.specs.Items.{Placed, placed, place_aimed, notes_of_placed}
 

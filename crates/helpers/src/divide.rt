@@ -5,7 +5,10 @@
 ghost use Rattle.std.specs.Prelude.{◌≡◌, IfOk, OnOk, ◌++◌};
 ghost use Rattle.prunum.specs.Number.{quot_u, rem_u, quot_s, rem_s};
 ghost use Rattle.helpers.specs.Bodies.{negated, magnitudes, divided, quotient_sign, quotient_moved, back};
+ghost use Rattle.helpers.specs.Numbers.{cycles_of, words_of};
 ghost use Rattle.helpers.specs.Runs.{Computes};
+ghost use Rattle.helpers.specs.Shapes.{HasShape};
+ghost use Rattle.helpers.specs.declared.helper.Helper.TheVariants.{DivU, RemU, DivS, RemS};
 
 use crate::items::{append, back, branched, calculated, loaded, looped, register, skipped};
 use isa::{AluOp, AsmProgram, Condition, Item, Operand};
@@ -87,7 +90,8 @@ fn append_signed_end(items: &mut Vec<Item>) -> Result<(), Memory>
 
 /// The quotient without sign, and 2^32 - 1 where R15 is 0.
 pub fn divu(alloc: Global) -> Result<AsmProgram, Memory>
-    ensures { IfOk result (λ p. Computes quot_u 197 p) }
+    ensures computes { IfOk result (Computes quot_u (cycles_of DivU)) }
+    ensures shape { IfOk result (HasShape (words_of DivU)) }
 {
     let mut items = Vec::new(alloc);
     append(&mut items, &divided())?;
@@ -98,7 +102,8 @@ pub fn divu(alloc: Global) -> Result<AsmProgram, Memory>
 
 /// What the quotient without sign leaves over, and R14 where R15 is 0.
 pub fn remu(alloc: Global) -> Result<AsmProgram, Memory>
-    ensures { IfOk result (λ p. Computes rem_u 196 p) }
+    ensures computes { IfOk result (Computes rem_u (cycles_of RemU)) }
+    ensures shape { IfOk result (HasShape (words_of RemU)) }
 {
     let mut items = Vec::new(alloc);
     append(&mut items, &divided())?;
@@ -108,7 +113,8 @@ pub fn remu(alloc: Global) -> Result<AsmProgram, Memory>
 
 /// The quotient of two's complement, cut towards 0, and 2^32 - 1 where R15 is 0.
 pub fn divs(alloc: Global) -> Result<AsmProgram, Memory>
-    ensures { IfOk result (λ p. Computes quot_s 206 p) }
+    ensures computes { IfOk result (Computes quot_s (cycles_of DivS)) }
+    ensures shape { IfOk result (HasShape (words_of DivS)) }
 {
     let mut items = Vec::new(alloc);
     append(&mut items, &quotient_sign())?;
@@ -121,7 +127,8 @@ pub fn divs(alloc: Global) -> Result<AsmProgram, Memory>
 
 /// What the quotient of two's complement leaves over, and R14 where R15 is 0.
 pub fn rems(alloc: Global) -> Result<AsmProgram, Memory>
-    ensures { IfOk result (λ p. Computes rem_s 203 p) }
+    ensures computes { IfOk result (Computes rem_s (cycles_of RemS)) }
+    ensures shape { IfOk result (HasShape (words_of RemS)) }
 {
     let mut items = Vec::new(alloc);
     append(

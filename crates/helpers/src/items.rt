@@ -5,7 +5,8 @@ ghost use Rattle.helpers.specs.Bodies.{whole, register, unaimed, calculated, loa
 ghost use Rattle.helpers.specs.Bodies.{return_field, returned, back};
 
 use isa::{
-    AluOp, BranchOffset, Condition, Field, Inst, Item, Jump, LoopBody, NoteKind, Operand, Part, Target,
+    AluOp, BranchOffset, Condition, Field, Inst, Item, Jump, LoopBody, NoteKind, Operand, Part,
+    Target,
 };
 use prunum::Memory;
 

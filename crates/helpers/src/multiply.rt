@@ -2,8 +2,10 @@
 
 ghost use Rattle.std.specs.Prelude.{◌≡◌, IfOk};
 ghost use Rattle.helpers.specs.Bodies.{multiplied};
-ghost use Rattle.helpers.specs.Numbers.{product};
+ghost use Rattle.helpers.specs.Numbers.{product, cycles_of, words_of};
 ghost use Rattle.helpers.specs.Runs.{Computes};
+ghost use Rattle.helpers.specs.Shapes.{HasShape};
+ghost use Rattle.helpers.specs.declared.helper.Helper.TheVariants.{Mul};
 
 use crate::items::{append, back, branched, calculated, loaded, looped, register, skipped};
 use isa::{AluOp, AsmProgram, Condition, Item, Operand};
@@ -31,7 +33,8 @@ fn multiplied() -> [Item; 11]
 
 /// The low 32 bits of the product.
 pub fn mul(alloc: Global) -> Result<AsmProgram, Memory>
-    ensures { IfOk result (λ p. Computes product 133 p) }
+    ensures computes { IfOk result (Computes product (cycles_of Mul)) }
+    ensures shape { IfOk result (HasShape (words_of Mul)) }
 {
     let mut items = Vec::new(alloc);
     append(&mut items, &multiplied())?;
