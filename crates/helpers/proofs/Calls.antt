@@ -15,7 +15,8 @@ use Rattle.helpers.proofs.Steps.{Sized, core, registers}
 counted : (code : Code) (n m : ℕ) (s t : State) → n ≡ m → RunsTo code n s t → RunsTo code m s t
 counted code n m s t is runs = subst (λ (k : ℕ). RunsTo code k s t) is runs
 
-pub then_runs : (code : Code) (n m total : ℕ) (s t u : State) → n + m ≡ total → RunsTo code n s t → RunsTo code m t u → RunsTo code total s u
+pub then_runs : (code : Code) (n m total : ℕ) (s t u : State) → n + m ≡ total → RunsTo code n s t → RunsTo code m t u → RunsTo code total
+    s u
 then_runs code _ m total _ _ u is (here s) more = counted code m total s u (omega arith) more
 then_runs code _ m total _ _ u is (on n s r t step rest) more =
     counted code (suc (n + m)) total s u (omega arith) (on (n + m) s r u step (then_runs code n m (n + m) r t u refl rest more))

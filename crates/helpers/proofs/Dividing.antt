@@ -74,9 +74,11 @@ module _ (code : Code) (p : ℕ) (stands : StandsAt code p divided) (A d : ℕ) 
   low : (k : ℕ) → k < 32 → k % 32 ≡ k
   low k h = omega arith
 
-  counts_down : (k r m : ℕ) (x : List ℕ) → k < 32 → length x ≡ 4 → StepsTo code (in_loop 3 k (regs r m (suc k) x)) (in_loop 4 k (regs r m k x))
+  counts_down : (k r m : ℕ) (x : List ℕ) → k < 32 → length x ≡ 4 → StepsTo code (in_loop 3 k (regs r m (suc k) x)) (in_loop 4 k (regs r m
+      k x))
   counts_down k r m x h long =
-      steps.alu code front back ram size (p + 3) (p + 4) (loop first end k) (loop first end k) (regs r m (suc k) x) ops.Sub 3 3 (operand.Imm 1)
+      steps.alu code front back ram size (p + 3) (p + 4) (loop first end k) (loop first end k) (regs r m (suc k) x) ops.Sub 3 3
+      (operand.Imm 1)
       (suc k) 1 k None (at code p divided stands 3 _ tt refl refl refl) (whole_regs r m (suc k) x long) tt tt
       (inside first end k (p + 3 + 1) (p + 4) (omega arith) (omega arith) (omega arith)) (r17 r m (suc k) x (omega arith))
       (steps.imm code front back ram size (regs r m (suc k) x) 1) (omega arith)
@@ -93,7 +95,8 @@ module _ (code : Code) (p : ℕ) (stands : StandsAt code p divided) (A d : ℕ) 
   too_small : (k r m t : ℕ) → k < 32 → t < 2 ^ 32 → leb d t ≡ false
       → StepsTo code (in_loop 5 k (regs r m k (le t))) (in_loop 6 k (regs r m k (le t)))
   too_small k r m t h fits told =
-      steps.branch_on code front back ram size (p + 5) (p + 6) (loop first end k) (loop first end k) (regs r m k (le t)) conditions.Le unaimed 4
+      steps.branch_on code front back ram size (p + 5) (p + 6) (loop first end k) (loop first end k) (regs r m k (le t)) conditions.Le
+      unaimed 4
       (register 15) t d (Some (p + 9)) (at code p divided stands 5 _ tt refl refl refl) (whole_regs r m k (le t) refl) tt
       (inside first end k (p + 5 + 1) (p + 6) (omega arith) (omega arith) (omega arith)) (r18 r m k t fits)
       (steps.reg code front back ram size (regs r m k (le t)) 1 d (whole_regs r m k (le t) refl) tt (r15 r m k (le t))) told
@@ -101,7 +104,8 @@ module _ (code : Code) (p : ℕ) (stands : StandsAt code p divided) (A d : ℕ) 
   has : (k r m t : ℕ) → k < 32 → t < 2 ^ 32 → leb d t ≡ true
       → StepsTo code (in_loop 5 k (regs r m k (le t))) (in_loop 9 k (regs r m k (le t)))
   has k r m t h fits told =
-      steps.branch_to code front back ram size (p + 5) (p + 9) (p + 9) (loop first end k) (loop first end k) (regs r m k (le t)) conditions.Le
+      steps.branch_to code front back ram size (p + 5) (p + 9) (p + 9) (loop first end k) (loop first end k) (regs r m k (le t))
+      conditions.Le
       unaimed 4
       (register 15) t d (at code p divided stands 5 _ tt refl refl refl) (whole_regs r m k (le t) refl) tt
       (inside first end k (p + 9) (p + 9) refl (omega arith) (omega arith)) (r18 r m k t fits)
@@ -127,7 +131,8 @@ module _ (code : Code) (p : ℕ) (stands : StandsAt code p divided) (A d : ℕ) 
   aligns : (k r m t n : ℕ) → k < 32 → d * 2 ^ k ≡ n → n < 2 ^ 32
       → StepsTo code (in_loop 9 k (regs r m k (le t))) (in_loop 10 k (regs r m k (le n)))
   aligns k r m t n h is fits =
-      steps.alu code front back ram size (p + 9) (p + 10) (loop first end k) (loop first end k) (regs r m k (le t)) ops.Lsl 4 1 (register 17)
+      steps.alu code front back ram size (p + 9) (p + 10) (loop first end k) (loop first end k) (regs r m k (le t)) ops.Lsl 4 1 (register
+      17)
       d k n None (at code p divided stands 9 _ tt refl refl refl) (whole_regs r m k (le t) refl) tt tt
       (inside first end k (p + 9 + 1) (p + 10) (omega arith) (omega arith) (omega arith)) (r15 r m k (le t))
       (steps.reg code front back ram size (regs r m k (le t)) 3 k (whole_regs r m k (le t) refl) tt (r17 r m k (le t) (omega arith)))
@@ -135,7 +140,8 @@ module _ (code : Code) (p : ℕ) (stands : StandsAt code p divided) (A d : ℕ) 
 
   takes : (k r m n : ℕ) → r < 2 ^ 32 → n ≤ r → StepsTo code (in_loop 10 k (regs r m k (le n))) (in_loop 11 k (regs (r - n) m k (le n)))
   takes k r m n fits less =
-      steps.alu code front back ram size (p + 10) (p + 11) (loop first end k) (loop first end k) (regs r m k (le n)) ops.Sub 0 0 (register 18)
+      steps.alu code front back ram size (p + 10) (p + 11) (loop first end k) (loop first end k) (regs r m k (le n)) ops.Sub 0 0 (register
+      18)
       r n (r - n) None (at code p divided stands 10 _ tt refl refl refl) (whole_regs r m k (le n) refl) tt tt
       (inside first end k (p + 10 + 1) (p + 11) (omega arith) (omega arith) (omega arith)) (r14 r m k (le n) fits)
       (steps.reg code front back ram size (regs r m k (le n)) 4 n (whole_regs r m k (le n) refl) tt (r18 r m k n (omega arith)))
@@ -194,7 +200,8 @@ module _ (code : Code) (p : ℕ) (stands : StandsAt code p divided) (A d : ℕ) 
             (on 1 _ _ _ (waits_again k r m) (on 0 _ _ _ (skips k r m) (here (behind k (regs r m k (le 0)))))))));
       }
 
-  turn : (k r m : ℕ) (x : List ℕ) → k < 32 → length x ≡ 4 → Divides A d (suc k) r m → After k 6 (in_loop 3 k (regs r m (suc k) x)) (behind k)
+  turn : (k r m : ℕ) (x : List ℕ) → k < 32 → length x ≡ 4 → Divides A d (suc k) r m → After k 6 (in_loop 3 k (regs r m (suc k) x)) (behind
+      k)
   turn k r m x h long is = turn_by k r m x h long is (leb_tells d (r / 2 ^ k))
 
   all_turns : (k r m : ℕ) (x : List ℕ) → k < 32 → length x ≡ 4 → Divides A d (suc k) r m
@@ -228,7 +235,8 @@ module _ (code : Code) (p : ℕ) (stands : StandsAt code p divided) (A d : ℕ) 
       (first_here code p (inst.Ldi (whole (14 + 2)) 0) None (at code p divided stands 0 _ tt refl refl refl))
       (sized (le A) x16 x17 x refl h i j) tt (straight (p + 1) (p + 1) refl))
       (on 1 _ _ _ (steps.ldi code front back ram size (p + 1) (p + 2) None None (le A ∷ le d ∷ le 0 ∷ x17 ∷ x ∷ x19 ∷ []) 3 32 None
-      (at code p divided stands 1 _ tt refl refl refl) (sized (le A) (le 0) x17 x refl refl i j) tt (straight (p + 1 + 1) (p + 2) (omega arith)))
+      (at code p divided stands 1 _ tt refl refl refl) (sized (le A) (le 0) x17 x refl refl i j) tt (straight (p + 1 + 1) (p + 2) (omega
+      arith)))
       (on 0 _ _ _ (steps.begin_loop code front back ram size (p + 2) first end None (regs A 0 32 x) turns
       (at code p divided stands 2 _ tt refl refl refl) (omega arith))
       (here (in_loop 3 31 (regs A 0 32 x)))))
@@ -243,7 +251,8 @@ module _ (code : Code) (p : ℕ) (stands : StandsAt code p divided) (A d : ℕ) 
       → Divided (core p None (le A ∷ le d ∷ x16 ∷ x17 ∷ x ∷ x19 ∷ [])) q
   divides q x16 x17 x is h i j =
       let all = all_turns 31 A 0 x (omega arith) j (begins A d A_fits) in
-      let runs : RunsTo code 195 (core p None (le A ∷ le d ∷ x16 ∷ x17 ∷ x ∷ x19 ∷ [])) (core end None (regs all.left all.quotient 0 all.scratch)) =
+      let runs : RunsTo code 195 (core p None (le A ∷ le d ∷ x16 ∷ x17 ∷ x ∷ x19 ∷ [])) (core end None (regs all.left all.quotient 0
+      all.scratch)) =
       then_runs code 3 192 195 _ _ _ refl (starts x16 x17 x h i j) all.runs in
       record {
         scratch = all.scratch;

@@ -63,9 +63,11 @@ module _ (code : Code) (base a b : ℕ) (stands : StandsAt code base multiplicat
 
   -- ---- a turn, for the bit of number k
 
-  counts_down : (k : ℕ) → k < 32 → (r : ℕ) → StepsTo code (core (base + 3) (loop first end k) (regs r (suc k))) (core (base + 4) (loop first end k) (regs r k))
+  counts_down : (k : ℕ) → k < 32 → (r : ℕ) → StepsTo code (core (base + 3) (loop first end k) (regs r (suc k))) (core (base + 4) (loop
+      first end k) (regs r k))
   counts_down k h r =
-      steps.alu code front back ram size (base + 3) (base + 4) (loop first end k) (loop first end k) (regs r (suc k)) ops.Sub 3 3 (operand.Imm 1)
+      steps.alu code front back ram size (base + 3) (base + 4) (loop first end k) (loop first end k) (regs r (suc k)) ops.Sub 3 3
+      (operand.Imm 1)
       (suc k) 1 k None (at code base multiplication stands 3 _ tt refl refl refl) (whole_regs r (suc k)) tt tt
       (inside first end k (base + 3 + 1) (base + 4) (omega arith) (omega arith) (omega arith)) (r17 r (suc k) (omega arith))
       (steps.imm code front back ram size (regs r (suc k)) 1) (omega arith)
@@ -85,7 +87,8 @@ module _ (code : Code) (base a b : ℕ) (stands : StandsAt code base multiplicat
   bit_0 : (k r : ℕ) → k < 32 → b / 2 ^ k % 2 ≡ 0
       → StepsTo code (core (base + 5) (loop first end k) (regs r k)) (core (base + 6) (loop first end k) (regs r k))
   bit_0 k r h is =
-      steps.branch_on code front back ram size (base + 5) (base + 6) (loop first end k) (loop first end k) (regs r k) conditions.BitSet unaimed 1
+      steps.branch_on code front back ram size (base + 5) (base + 6) (loop first end k) (loop first end k) (regs r k) conditions.BitSet
+      unaimed 1
       (register 17) b k (Some (base + 7)) (at code base multiplication stands 5 _ tt refl refl refl) (whole_regs r k) tt
       (inside first end k (base + 5 + 1) (base + 6) (omega arith) (omega arith) (omega arith)) (r15 r k)
       (steps.reg code front back ram size (regs r k) 3 k (whole_regs r k) tt (r17 r k (omega arith))) (tests_bit k 0 h is)
@@ -109,7 +112,8 @@ module _ (code : Code) (base a b : ℕ) (stands : StandsAt code base multiplicat
 
   adds : (k r n : ℕ) → r < 2 ^ 32 → (r + a) % 2 ^ 32 ≡ n → StepsTo code (core (base + 7) (loop first end k) (regs r k)) (behind k n)
   adds k r n fits is =
-      steps.alu code front back ram size (base + 7) (behind_turn first end k).pc (loop first end k) (behind_turn first end k).turning (regs r k)
+      steps.alu code front back ram size (base + 7) (behind_turn first end k).pc (loop first end k) (behind_turn first end k).turning
+      (regs r k)
       ops.Add 2 2 (register 14)
       r a n None (at code base multiplication stands 7 _ tt refl refl refl) (whole_regs r k) tt tt
       (turned first end k (base + 7 + 1) (omega arith)) (r16 r k fits)
@@ -129,12 +133,14 @@ module _ (code : Code) (base a b : ℕ) (stands : StandsAt code base multiplicat
       on 3 _ _ _ (counts_down k h r) (on 2 _ _ _ (doubles k r fits) (on 1 _ _ _ (bit_1 k m h one_bit)
       (on 0 _ _ _ (adds k m n small (by_1 one_bit)) (here (behind k n)))))
 
-  turn : (k : ℕ) → k < 32 → RunsTo code 4 (core first (loop first end k) (regs (times_high a b (suc k)) (suc k))) (behind k (times_high a b k))
+  turn : (k : ℕ) → k < 32 → RunsTo code 4 (core first (loop first end k) (regs (times_high a b (suc k)) (suc k))) (behind k (times_high a
+      b k))
   turn k h =
       turn_by k (times_high a b (suc k)) (times_high a b k) h (omega arith) (halved (b / 2 ^ k)) (doubled_by_0 a b k) (doubled_by_1 a b k)
 
   all_turns : (k : ℕ) → k < 32
-      → RunsTo code (4 * suc k) (core first (loop first end k) (regs (times_high a b (suc k)) (suc k))) (core end None (regs (times_high a b 0) 0))
+      → RunsTo code (4 * suc k) (core first (loop first end k) (regs (times_high a b (suc k)) (suc k))) (core end None (regs (times_high a
+      b 0) 0))
   all_turns zero h = turn zero h
   all_turns (suc k) h = then_runs code 4 (4 * suc k) (4 * suc (suc k)) _ _ _ (omega arith) (turn (suc k) h) (all_turns k (omega arith))
 
@@ -148,13 +154,15 @@ module _ (code : Code) (base a b : ℕ) (stands : StandsAt code base multiplicat
       (r16 r 0 fits) (steps.imm code front back ram size (regs r 0) 0) (omega arith)
 
   starts : (x16 x17 : List ℕ) → length x16 ≡ 4 → length x17 ≡ 4
-      → RunsTo code 3 (core base None (le a ∷ le b ∷ x16 ∷ x17 ∷ x18 ∷ x19 ∷ [])) (core first (loop first end 31) (regs (times_high a b 32) 32))
+      → RunsTo code 3 (core base None (le a ∷ le b ∷ x16 ∷ x17 ∷ x18 ∷ x19 ∷ [])) (core first (loop first end 31) (regs (times_high a b
+      32) 32))
   starts x16 x17 h i =
       on 2 _ _ _ (steps.ldi code front back ram size base (base + 1) None None (le a ∷ le b ∷ x16 ∷ x17 ∷ x18 ∷ x19 ∷ []) 2 0 None
       (first_here code base (inst.Ldi (whole (14 + 2)) 0) None (at code base multiplication stands 0 _ tt refl refl refl))
       (sized x16 x17 h i) tt (straight (base + 1) (base + 1) refl))
       (on 1 _ _ _ (steps.ldi code front back ram size (base + 1) (base + 2) None None (le a ∷ le b ∷ le 0 ∷ x17 ∷ x18 ∷ x19 ∷ []) 3 32 None
-      (at code base multiplication stands 1 _ tt refl refl refl) (sized (le 0) x17 refl i) tt (straight (base + 1 + 1) (base + 2) (omega arith)))
+      (at code base multiplication stands 1 _ tt refl refl refl) (sized (le 0) x17 refl i) tt (straight (base + 1 + 1) (base + 2) (omega
+      arith)))
       (on 0 _ _ _ (subst (λ (n : ℕ). StepsTo code (core (base + 2) None (regs 0 32)) (core first (loop first end 31) (regs n 32)))
       (no_high a b b_fits) (steps.begin_loop code front back ram size (base + 2) first end None (regs 0 32) turns
       (at code base multiplication stands 2 _ tt refl refl refl) (omega arith)))

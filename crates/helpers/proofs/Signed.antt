@@ -9,7 +9,8 @@ use Rattle.isa.specs.declared.program.Item.{Item}
 use Rattle.corestep.specs.Core.{State}
 use Rattle.corerun.specs.Code.{Code}
 use Rattle.corerun.specs.Items.{placed}
-use Rattle.helpers.specs.Bodies.{calculated, whole, negated, magnitudes, divided, divided_signed, rest_signed, quotient_sign, quotient_moved, back}
+use Rattle.helpers.specs.Bodies.{calculated, whole, negated, magnitudes, divided, divided_signed, rest_signed, quotient_sign}
+use Rattle.helpers.specs.Bodies.{quotient_moved, back}
 use Rattle.helpers.specs.Runs.{StandsAt, StepsTo, RunsTo, here, on, Computes}
 use Rattle.helpers.proofs.Steps as steps
 use Rattle.helpers.proofs.Steps.{Sized, at, first_here, straight}
@@ -69,7 +70,8 @@ module _ (code : Code) (base a b : ℕ) (a_fits : a < 2 ^ 32) (b_fits : b < 2 ^ 
 
   -- ---- what is left over
 
-  copies : StandsAt code base rest_signed → StepsTo code (core base (le a ∷ le b ∷ x16 ∷ x17 ∷ x18 ∷ x19 ∷ [])) (core (base + 1) (regs a b a))
+  copies : StandsAt code base rest_signed → StepsTo code (core base (le a ∷ le b ∷ x16 ∷ x17 ∷ x18 ∷ x19 ∷ [])) (core (base + 1) (regs a b
+      a))
   copies stands =
       let v : List (List ℕ) = le a ∷ le b ∷ x16 ∷ x17 ∷ x18 ∷ x19 ∷ [] in
       steps.alu code front behind ram size base (base + 1) None None v ops.Add 5 0 (operand.Imm 0) a 0 a None
@@ -82,8 +84,39 @@ module _ (code : Code) (base a b : ℕ) (a_fits : a < 2 ^ 32) (b_fits : b < 2 ^ 
   rest stands =
       let piece : StandsAt code (base + 7) divided =
       part code base 7 (base + 7) rest_signed divided (placed [] (calculated ops.Add 19 14 (operand.Imm 0) ∷ magnitudes))
-      (placed [] (negated 14 19 8 9 ++ back)) stands refl refl refl (refl, (refl, (refl, (refl, (refl, (refl, (refl, (refl, (refl, (refl, (refl, (refl, tt)))))))))))) in
-      let did = divides code (base + 7) piece m n m_fits n_fits front behind ram (le a) size refl (base + 19) x16 x17 x18 (omega arith) h i j in
+      (placed [] (negated 14 19 8 9 ++ back)) stands refl refl refl (
+        refl,
+        (
+          refl,
+          (
+            refl,
+            (
+              refl,
+              (
+                refl,
+                (
+                  refl,
+                  (
+                    refl,
+                    (
+                      refl,
+                      (
+                        refl,
+                        (
+                          refl,
+                          (refl, (refl, tt)),
+                        ),
+                      ),
+                    ),
+                  ),
+                ),
+              ),
+            ),
+          ),
+        ),
+      ) in
+      let did = divides code (base + 7) piece m n m_fits n_fits front behind ram (le a) size refl (base + 19) x16 x17 x18 (omega arith) h
+      i j in
       let r : ℕ = signed_by a (rem_u m n) in
       record {
         after = after r did.scratch a;
@@ -128,13 +161,36 @@ module _ (code : Code) (base a b : ℕ) (a_fits : a < 2 ^ 32) (b_fits : b < 2 ^ 
   quotient : StandsAt code base divided_signed → Left code base a b (quot_s a b) 206 front behind ram x16 x17 x18 x19 size
   quotient stands =
       let signs : StandsAt code base quotient_sign =
-      part code base 0 base divided_signed quotient_sign [] (placed [] (magnitudes ++ (divided ++ (quotient_moved ∷ (negated 14 19 8 9 ++ back)))))
+      part code base 0 base divided_signed quotient_sign [] (placed [] (magnitudes ++ (divided ++ (quotient_moved ∷ (negated 14 19 8 9 ++
+      back)))))
       stands refl refl (omega arith) (refl, (refl, (refl, (refl, tt)))) in
       let piece : StandsAt code (base + 10) divided =
       part code base 10 (base + 10) divided_signed divided (placed [] (quotient_sign ++ magnitudes))
-      (placed [] (quotient_moved ∷ (negated 14 19 8 9 ++ back))) stands refl refl refl (refl, (refl, (refl, (refl, (refl, (refl, (refl, (refl, (refl, (refl, (refl, (refl, tt)))))))))))) in
+      (placed [] (quotient_moved ∷ (negated 14 19 8 9 ++ back))) stands refl refl refl (
+        refl,
+        (
+          refl,
+          (
+            refl,
+            (
+              refl,
+              (
+                refl,
+                (
+                  refl,
+                  (
+                    refl,
+                    (refl, (refl, (refl, (refl, (refl, tt))))),
+                  ),
+                ),
+              ),
+            ),
+          ),
+        ),
+      ) in
       let s_fits : s < 2 ^ 32 = signing.sign_fits code front behind ram size base a b signs a_fits b_fits x16 x17 x18 h i j in
-      let did = divides code (base + 10) piece m n m_fits n_fits front behind ram (le s) size refl (base + 22) x16 x17 x18 (omega arith) h i j in
+      let did = divides code (base + 10) piece m n m_fits n_fits front behind ram (le s) size refl (base + 22) x16 x17 x18 (omega arith) h
+      i j in
       let q : ℕ = quot_u m n in
       let q_fits : q < 2 ^ 32 = quot_u_fits m n m_fits in
       let r : ℕ = signed_by s q in
@@ -161,7 +217,8 @@ module _ (code : Code) (base a b : ℕ) (a_fits : a < 2 ^ 32) (b_fits : b < 2 ^ 
               last = omega arith;
             }))
             (then_runs code 195 4 199 _ _ _ refl did.runs (on 3 _ _ _
-            (steps.alu code front behind ram size (base + 22) (base + 23) None None (after (rem_u m n) did.scratch s) ops.Add 0 2 (operand.Imm 0) q 0 q
+            (steps.alu code front behind ram size (base + 22) (base + 23) None None (after (rem_u m n) did.scratch s) ops.Add 0 2
+            (operand.Imm 0) q 0 q
             None (at code base divided_signed stands 22 _ tt refl refl refl) (after_sized (rem_u m n) s did.scratch did.scratch_size) tt tt
             (straight (base + 22 + 1) (base + 23) (omega arith)) (record { holds = refl; fits = q_fits })
             (steps.imm code front behind ram size (after (rem_u m n) did.scratch s) 0) (omega arith))

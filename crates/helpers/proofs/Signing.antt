@@ -44,7 +44,8 @@ module _ (code : Code) (front back ram : List ℕ) (size : length front ≡ 56) 
   negates_by p skips turns q k j x s n v false items sized hk hj is_x is_s told gives =
       let stays : v ≡ set v k (little_bytes 4 n) =
       sym (ap (set v k) (ap (little_bytes 4) (sym gives) ∙ sym is_x.holds) ∙ set-get_or v k []) in
-      on 1 _ _ _ (steps.branch_on code front back ram size p skips None None v conditions.BitSet unaimed j (operand.Imm 31) s 31 (Some turns)
+      on 1 _ _ _ (steps.branch_on code front back ram size p skips None None v conditions.BitSet unaimed j (operand.Imm 31) s 31 (Some
+      turns)
       items.tests sized hj (straight (p + 1) skips items.next) is_s (steps.imm code front back ram size v 31) told)
       (on 0 _ _ _ (subst (λ (w : List (List ℕ)). StepsTo code (core skips v) (core q w)) stays
       (steps.skip code front back ram size skips q q None None v unaimed items.goes_by (straight q q refl)))
@@ -77,11 +78,14 @@ module _ (code : Code) (front back ram : List ℕ) (size : length front ≡ 56) 
         (straight (base + 1) (base + 1) refl) (record { holds = refl; fits = a_fits })
         (steps.reg code front back ram size (regs x19) 1 b (sized x19 k) tt (r15 x19)) refl
 
-    divisor_0 : (n : ℕ) → (0 == b) ≡ true → RunsTo code 2 (core (base + 1) (regs (little_bytes 4 n))) (core (base + 4) (regs (little_bytes 4 0)))
+    divisor_0 : (n : ℕ) → (0 == b) ≡ true → RunsTo code 2 (core (base + 1) (regs (little_bytes 4 n))) (core (base + 4) (regs (little_bytes
+        4 0)))
     divisor_0 n told =
         let v : List (List ℕ) = regs (little_bytes 4 n) in
-        on 1 _ _ _ (steps.branch_to code front back ram size (base + 1) (base + 3) (base + 3) None None v conditions.Eq unaimed 1 (operand.Imm 0)
-        b 0 (at code base quotient_sign stands 1 _ tt refl refl refl) (sized (little_bytes 4 n) refl) tt (straight (base + 3) (base + 3) refl)
+        on 1 _ _ _ (steps.branch_to code front back ram size (base + 1) (base + 3) (base + 3) None None v conditions.Eq unaimed 1
+        (operand.Imm 0)
+        b 0 (at code base quotient_sign stands 1 _ tt refl refl refl) (sized (little_bytes 4 n) refl) tt (straight (base + 3) (base + 3)
+        refl)
         (r15 (little_bytes 4 n)) (steps.imm code front back ram size v 0) told)
         (on 0 _ _ _ (steps.ldi code front back ram size (base + 3) (base + 4) None None v 5 0 None
         (at code base quotient_sign stands 3 _ tt refl refl refl) (sized (little_bytes 4 n) refl) tt
@@ -106,7 +110,8 @@ module _ (code : Code) (front back ram : List ℕ) (size : length front ≡ 56) 
         subst (λ (t : Bool). RunsTo code 2 (core (base + 1) (regs (little_bytes 4 n)))
         (core (base + 4) (regs (little_bytes 4 (if t then 0 else n))))) (sym other) (divisor_not_0 n not_0)
 
-    pub sign : (x19 : List ℕ) → length x19 ≡ 4 → RunsTo code 3 (core base (regs x19)) (core (base + 4) (regs (little_bytes 4 (sign_of_quotient a b))))
+    pub sign : (x19 : List ℕ) → length x19 ≡ 4 → RunsTo code 3 (core base (regs x19)) (core (base + 4) (regs (little_bytes 4
+        (sign_of_quotient a b))))
     sign x19 k = on 2 _ _ _ (compares x19 k) (by_divisor (bit_xor a b) b refl)
 
     either_fits : (t : Bool) → (if t then 0 else bit_xor a b) < 2 ^ 32

@@ -1,5 +1,6 @@
 -- Division of two's complement by the distances from 0, and the signs.
-use Rattle.std.proofs.Common.{◌≡◌, ℕ, zero, suc, ◌+◌, ◌-◌, ◌/◌, ◌%◌, ◌^◌, ◌<◌, ◌≤◌, Bool, true, false, refl, sym, ap, ◌∙◌, arith, ◌⊎◌, inl, inr, leb}
+use Rattle.std.proofs.Common.{◌≡◌, ℕ, zero, suc, ◌+◌, ◌-◌, ◌/◌, ◌%◌, ◌^◌, ◌<◌, ◌≤◌, Bool, true, false, refl, sym, ap, ◌∙◌, arith, ◌⊎◌}
+use Rattle.std.proofs.Common.{inl, inr, leb}
 use Rattle.std.specs.Prelude.{◌==◌, if◌then◌else◌, bit_xor, ℤ, pos, negsuc, neg_ℤ, int_div, int_rem, unsigned_abs}
 use Rattle.std.proofs.lemmas.Bool.Decides.{nat_tests, leb_tells}
 use Rattle.std.proofs.lemmas.Int.{ints}

@@ -235,9 +235,11 @@ module _ (code : Code) (front back ram : List ℕ) (size : length front ≡ 56) 
 
   compares : (v : List (List ℕ)) (g : Given) (c : Condition) (offset : BranchOffset) (a : ℕ) (o : Operand) (x y behind : ℕ) (b : Bool)
       → Sized v → a < 6 → Is v a x → Reads v o y → is_taken c x y ≡ b
-      → effect behind (registers v) ram g (inst.Branch c offset (whole (14 + a)) o) ≡ shows (registers v) ram [] (if b then Target else Behind)
+      → effect behind (registers v) ram g (inst.Branch c offset (whole (14 + a)) o) ≡ shows (registers v) ram [] (if b then Target else
+      Behind)
   compares v g c offset a o x y behind b sized less is reads told =
-      let goes : Goes = if is_taken c (field_value (registers v) g.first (whole (14 + a))) (operand_value (registers v) g.second o) then Target
+      let goes : Goes = if is_taken c (field_value (registers v) g.first (whole (14 + a))) (operand_value (registers v) g.second o) then
+      Target
       else Behind in
       ap (λ (l : List Event). shows (registers v) ram (l ++ operand_reads g.second o) goes) (reads_nothing g.first a less)
       ∙ ap (λ (l : List Event). shows (registers v) ram l goes) (reads.silent g.second)
@@ -265,7 +267,8 @@ module _ (code : Code) (front back ram : List ℕ) (size : length front ≡ 56) 
       → StepsTo code (core p t v) (core q after v)
   branch_to p q l t after v c offset a o x y it sized ha next is reads told =
       does code (core p t v) (inst.Branch c offset (whole (14 + a)) o) (Some l) (registers v) Target (record { pc = q; turning = after }) it
-      (λ g. compares v g c offset a o x y (code.number (p + 1)) true sized (lit< ha) is reads told) (aimed_at p l q t after (inst.Branch c offset (whole (14 + a)) o) it.target next) refl
+      (λ g. compares v g c offset a o x y (code.number (p + 1)) true sized (lit< ha) is reads told) (aimed_at p l q t after (inst.Branch c
+      offset (whole (14 + a)) o) it.target next) refl
 
   pub skip : (p q l : ℕ) (t after : Option Turning) (v : List (List ℕ)) (offset : BranchOffset)
       → Here code p (inst.Qba offset) (Some l) → onward l t ≡ record { pc = q; turning = after }

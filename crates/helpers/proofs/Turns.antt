@@ -98,7 +98,8 @@ taken A d k r q is most =
       high = is.high + is.high + 1;
       whole =
           ap (λ n. n + p) (is.whole ∙ ap (λ n. is.high * n) (double k) ∙ mul-add is.high p p ∙ sym (add-mul is.high is.high p))
-          ∙ (let one : (is.high + is.high) * p + 1 * p ≡ (is.high + is.high + 1) * p = sym (add-mul (is.high + is.high) 1 p) in omega arith);
+          ∙ (let one : (is.high + is.high) * p + 1 * p ≡ (is.high + is.high + 1) * p = sym (add-mul (is.high + is.high) 1 p) in omega
+          arith);
       small = λ some. let less = is.small some in omega arith;
       full = λ none. let before = is.full none in let twice : 2 ^ suc k ≡ 2 ^ k + 2 ^ k = double k in omega arith;
     }
@@ -125,7 +126,8 @@ quotient_is A zero r q is = let full = is.full refl in omega arith
 quotient_is A (suc d) r q is =
     let some : (suc d == 0) ≡ false = eqb-suc-zero d in
     let less : r < suc d = let h = is.small (omega arith) in omega arith in
-    sym (ap (λ (b : Bool). if b then 2 ^ 32 - 1 else A / suc d) some ∙ ap (λ (n : ℕ). n / suc d) (sym is.sum) ∙ div-mul-add q (suc d) r less)
+    sym (ap (λ (b : Bool). if b then 2 ^ 32 - 1 else A / suc d) some ∙ ap (λ (n : ℕ). n / suc d) (sym is.sum) ∙ div-mul-add q (suc d) r
+    less)
 
 pub rest_is : (A d r q : ℕ) → Divides A d 0 r q → r ≡ rem_u A d
 rest_is A zero r q is = let sum = is.sum in omega arith

@@ -25,7 +25,22 @@ module _ (code : Code) (base a b : ℕ) (a_fits : a < 2 ^ 32) (b_fits : b < 2 ^ 
   rest : StandsAt code base rest_unsigned → Left code base a b (rem_u a b) 196 front behind ram x16 x17 x18 x19 size
   rest stands =
       let piece : StandsAt code base divided =
-      part code base 0 base rest_unsigned divided [] (placed [] back) stands refl refl (omega arith) (refl, (refl, (refl, (refl, (refl, (refl, (refl, (refl, (refl, (refl, (refl, (refl, tt)))))))))))) in
+      part code base 0 base rest_unsigned divided [] (placed [] back) stands refl refl (omega arith) (
+        refl,
+        (
+          refl,
+          (
+            refl,
+            (
+              refl,
+              (
+                refl,
+                (refl, (refl, (refl, (refl, (refl, (refl, (refl, tt))))))),
+              ),
+            ),
+          ),
+        ),
+      ) in
       let did = divides code base piece a b a_fits b_fits front behind ram x19 size k (base + 12) x16 x17 x18 refl h i j in
       let after : List (List ℕ) = le (rem_u a b) ∷ le b ∷ le (quot_u a b) ∷ le 0 ∷ did.scratch ∷ x19 ∷ [] in
       record {
@@ -33,13 +48,20 @@ module _ (code : Code) (base a b : ℕ) (a_fits : a < 2 ^ 32) (b_fits : b < 2 ^ 
         sized = record { count = refl; fours = (refl, (refl, (refl, (refl, (did.scratch_size, (k, tt)))))) };
         result = refl;
         runs = then_runs code 195 1 196 _ _ _ refl did.runs (on 0 _ _ _
-            (steps.return code front behind ram size (base + 12) after (at code base rest_unsigned stands 12 _ tt refl refl refl)) (here _));
+            (steps.return code front behind ram size (base + 12) after (at code base rest_unsigned stands 12 _ tt refl refl refl)) (here
+            _));
       }
 
   quotient : StandsAt code base divided_unsigned → Left code base a b (quot_u a b) 197 front behind ram x16 x17 x18 x19 size
   quotient stands =
       let piece : StandsAt code base divided =
-      part code base 0 base divided_unsigned divided [] (placed [] (quotient_moved ∷ back)) stands refl refl (omega arith) (refl, (refl, (refl, (refl, (refl, (refl, (refl, (refl, (refl, (refl, (refl, (refl, tt)))))))))))) in
+      part code base 0 base divided_unsigned divided [] (placed [] (quotient_moved ∷ back)) stands refl refl (omega arith) (
+        refl,
+        (
+          refl,
+          (refl, (refl, (refl, (refl, (refl, (refl, (refl, (refl, (refl, (refl, tt)))))))))),
+        ),
+      ) in
       let did = divides code base piece a b a_fits b_fits front behind ram x19 size k (base + 12) x16 x17 x18 refl h i j in
       let before : List (List ℕ) = le (rem_u a b) ∷ le b ∷ le (quot_u a b) ∷ le 0 ∷ did.scratch ∷ x19 ∷ [] in
       let after : List (List ℕ) = le (quot_u a b) ∷ le b ∷ le (quot_u a b) ∷ le 0 ∷ did.scratch ∷ x19 ∷ [] in
@@ -50,8 +72,10 @@ module _ (code : Code) (base a b : ℕ) (a_fits : a < 2 ^ 32) (b_fits : b < 2 ^ 
         sized = record { count = refl; fours = (refl, (refl, (refl, (refl, (did.scratch_size, (k, tt)))))) };
         result = refl;
         runs = then_runs code 195 2 197 _ _ _ refl did.runs (on 1 _ _ _
-            (steps.alu code front behind ram size (base + 12) (base + 13) None None before ops.Add 0 2 (operand.Imm 0) (quot_u a b) 0 (quot_u a b)
-            None (at code base divided_unsigned stands 12 _ tt refl refl refl) sized tt tt (straight (base + 12 + 1) (base + 13) (omega arith))
+            (steps.alu code front behind ram size (base + 12) (base + 13) None None before ops.Add 0 2 (operand.Imm 0) (quot_u a b) 0
+            (quot_u a b)
+            None (at code base divided_unsigned stands 12 _ tt refl refl refl) sized tt tt (straight (base + 12 + 1) (base + 13) (omega
+            arith))
             (record { holds = refl; fits = fits }) (steps.imm code front behind ram size before 0) (omega arith))
             (on 0 _ _ _ (steps.return code front behind ram size (base + 13) after
             (at code base divided_unsigned stands 13 _ tt refl refl refl)) (here _)));

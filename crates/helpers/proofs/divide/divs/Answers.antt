@@ -8,7 +8,9 @@ use Rattle.helpers.proofs.divide.divs.Goals as goal
 
 pub returns : goal.returns
 returns c =
-    let items : c.new.result ≡ divided_signed = c.new.ensures ∙ grows _ _ _ _ _ c.in_ok-append_signed_end.ensures (grows _ _ _ _ _ c.in_ok-append-3.ensures
-    (grows _ _ _ _ _ c.in_ok-append-2.ensures (grows _ _ _ _ _ c.in_ok-append_magnitudes.ensures (grows _ _ _ _ _ c.in_ok-append.ensures c.new-items.ensures.items
+    let items : c.new.result ≡ divided_signed = c.new.ensures ∙ grows _ _ _ _ _ c.in_ok-append_signed_end.ensures (grows _ _ _ _ _
+    c.in_ok-append-3.ensures
+    (grows _ _ _ _ _ c.in_ok-append-2.ensures (grows _ _ _ _ _ c.in_ok-append_magnitudes.ensures (grows _ _ _ _ _ c.in_ok-append.ensures
+    c.new-items.ensures.items
     c.quotient_sign.ensures) refl) c.divided.ensures) (ap (λ (i : Item). i ∷ []) c.quotient_moved.ensures)) refl in
     record { computes = divs_computes c.new.result items; shape = signed_quotient_shape c.new.result items }

@@ -7,5 +7,6 @@ use Rattle.helpers.proofs.divide.remu.Goals as goal
 
 pub returns : goal.returns
 returns c =
-    let items : c.new.result ≡ rest_unsigned = c.new.ensures ∙ grows _ _ _ _ _ c.in_ok-append-2.ensures (grows _ _ _ _ _ c.in_ok-append.ensures c.new-items.ensures.items c.divided.ensures) c.back.ensures in
+    let items : c.new.result ≡ rest_unsigned = c.new.ensures ∙ grows _ _ _ _ _ c.in_ok-append-2.ensures (grows _ _ _ _ _
+    c.in_ok-append.ensures c.new-items.ensures.items c.divided.ensures) c.back.ensures in
     record { computes = remu_computes c.new.result items; shape = rest_shape c.new.result items }
