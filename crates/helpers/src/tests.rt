@@ -22,12 +22,13 @@ const ENDS: [u32; 10] = [
     0xffff_ffff,
 ];
 
-fn place_of(items: &[Item], label: u32) -> i16 {
-    let mut place = 0;
+/// The number of words before a label, or of all where there is none such.
+fn place_of(items: &[Item], label: u32) -> u16 {
+    let mut place = 0u16;
     for item in items {
         match *item {
             Item::Label(l) if l == label => return place,
-            Item::Whole(_) | Item::Aimed { .. } => place += 1,
+            Item::Whole(_) | Item::Aimed { .. } => place = place.wrapping_add(1),
             _ => {}
         }
     }
@@ -35,12 +36,12 @@ fn place_of(items: &[Item], label: u32) -> i16 {
 }
 
 /// The instruction at a place, with the distance to its label.
-fn aimed(items: &[Item], at: i16, inst: Inst, target: Target) -> Inst {
+fn aimed(items: &[Item], at: u16, inst: Inst, target: Target) -> Inst {
     let Target::Label(l) = target else {
         return inst;
     };
-    let distance = place_of(items, l) - at;
-    if distance < 1 || distance > 100 {
+    let distance = place_of(items, l).wrapping_sub(at);
+    if distance < 2 || distance > 100 {
         return inst;
     }
     match inst {
@@ -57,21 +58,18 @@ fn aimed(items: &[Item], at: i16, inst: Inst, target: Target) -> Inst {
             ..
         } => Inst::Branch {
             condition,
-            offset: BranchOffset { words: distance },
+            offset: BranchOffset {
+                words: distance as i16,
+            },
             a,
             b,
         },
         Inst::Qba { .. } => Inst::Qba {
-            offset: BranchOffset { words: distance },
+            offset: BranchOffset {
+                words: distance as i16,
+            },
         },
         _ => inst,
-    }
-}
-
-fn whole(reg: u8) -> Field {
-    Field {
-        reg: reg % 32,
-        part: Part::All,
     }
 }
 
@@ -90,24 +88,24 @@ fn words_of<R: AllocGlobal + Abort>(
     b: u32,
 ) -> Result<Vec<u32>, Fail> {
     let mut words = Vec::new(rt.alloc());
-    let length = place_of(items, u32::MAX);
+    let last = place_of(items, u32::MAX).wrapping_add(5);
     for (d, n) in [
-        (half(14, Part::W0), a % 65_536),
-        (half(14, Part::W2), a / 65_536),
-        (half(15, Part::W0), b % 65_536),
-        (half(15, Part::W2), b / 65_536),
-        (half(3, Part::W2), length as u32 + 5),
+        (half(14, Part::W0), (a % 65_536) as u16),
+        (half(14, Part::W2), (a / 65_536) as u16),
+        (half(15, Part::W0), (b % 65_536) as u16),
+        (half(15, Part::W2), (b / 65_536) as u16),
+        (half(3, Part::W2), last),
     ] {
-        words.push(encode(&Inst::Ldi { d, n: n as u16 }))?;
+        words.push(encode(&Inst::Ldi { d, n }))?;
     }
-    let mut at = 0;
+    let mut at = 0u16;
     for item in items {
         match *item {
             Item::Whole(inst) => words.push(encode(&inst))?,
             Item::Aimed { inst, target } => words.push(encode(&aimed(items, at, inst, target)))?,
             _ => continue,
         }
-        at += 1;
+        at = at.wrapping_add(1);
     }
     words.push(encode(&Inst::Halt))?;
     Ok(words)
@@ -123,7 +121,7 @@ fn run<R: AllocGlobal + Abort>(
 ) -> Result<Option<u32>, Fail> {
     let alloc = rt.alloc();
     let words = words_of(rt, items, a, b)?;
-    let last = words.len() as u32 - 1;
+    let last = u32::from(place_of(items, u32::MAX)).wrapping_add(5);
     let init: Vec<u8> = Vec::new(alloc);
     let notes: Vec<Note> = Vec::new(alloc);
     assert!(rt; is_image(words.as_slice(), 0x10, init.as_slice(), 0, notes.as_slice()));
@@ -134,7 +132,7 @@ fn run<R: AllocGlobal + Abort>(
         bytes: [0; 124],
         pads: [0; 4],
     };
-    for _ in 0..count + 5 {
+    for _ in 0..count.saturating_add(5) {
         let out = step(&mut core, &image, &input);
         if out.stop != Stop::Going || !out.events.as_slice().is_empty() {
             return Ok(None);
@@ -147,37 +145,36 @@ fn run<R: AllocGlobal + Abort>(
     })
 }
 
-fn check<R: AllocGlobal + Abort>(
-    rt: &R,
-    h: Helper,
-    items: &[Item],
-    wanted: fn(u32, u32) -> u32,
-) -> Result<(), Fail> {
+/// The number that a helper computes.
+fn number(h: Helper, a: u32, b: u32) -> u32 {
+    match h {
+        Helper::Mul => a.wrapping_mul(b),
+        Helper::DivU => quot_u(a, b),
+        Helper::RemU => rem_u(a, b),
+        Helper::DivS => quot_s(a, b),
+        Helper::RemS => rem_s(a, b),
+    }
+}
+
+fn check<R: AllocGlobal + Abort>(rt: &R, h: Helper, items: &[Item]) -> Result<(), Fail> {
     for a in ENDS {
         for b in ENDS {
-            assert_eq!(rt;
-                run(rt, items, a, b, cycles(h))?,
-                Some(wanted(a, b)),
-                "{a:x} {b:x}"
-            );
+            let found = run(rt, items, a, b, cycles(h))?;
+            assert_eq!(rt; found, Some(number(h, a, b)), "{a:x} {b:x}");
         }
     }
     Ok(())
 }
 
-fn product(a: u32, b: u32) -> u32 {
-    a.wrapping_mul(b)
-}
-
 #[test]
 fn multiplies(rt: HostRuntime) -> Result<(), Fail> {
-    check(&rt, Helper::Mul, mul(rt.alloc())?.items(), product)
+    check(&rt, Helper::Mul, mul(rt.alloc())?.items())
 }
 
 #[test]
 fn divides(rt: HostRuntime) -> Result<(), Fail> {
-    check(&rt, Helper::DivU, divu(rt.alloc())?.items(), quot_u)?;
-    check(&rt, Helper::RemU, remu(rt.alloc())?.items(), rem_u)?;
-    check(&rt, Helper::DivS, divs(rt.alloc())?.items(), quot_s)?;
-    check(&rt, Helper::RemS, rems(rt.alloc())?.items(), rem_s)
+    check(&rt, Helper::DivU, divu(rt.alloc())?.items())?;
+    check(&rt, Helper::RemU, remu(rt.alloc())?.items())?;
+    check(&rt, Helper::DivS, divs(rt.alloc())?.items())?;
+    check(&rt, Helper::RemS, rems(rt.alloc())?.items())
 }

@@ -1,5 +1,5 @@
 -- The label of a word has the bounds of the sums there in first turns.
-use Rattle.std.proofs.Common.{◌≡◌, ℕ, ◌+◌, ◌≤◌, List, [], ◌∷◌, Option, Some, IsSome, is_some, refl, ap, subst, ◌∙◌, arith, Contains}
+use Rattle.std.proofs.Common.{◌≡◌, ℕ, ◌+◌, ◌≤◌, List, [], ◌∷◌, Some, is_some, refl, ap, subst, arith, Contains}
 use Rattle.loopbound.specs.declared.graph.Bounds.{Bounds}
 use Rattle.loopbound.specs.declared.graph.Loop.{Loop}
 use Rattle.loopbound.specs.declared.graph.Side.{Side}

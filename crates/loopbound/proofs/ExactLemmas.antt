@@ -1,6 +1,6 @@
 -- Where one step meets each bound, some path meets it: from any word and any counts there, one step back at a time.
-use Rattle.std.proofs.Common.{◌≡◌, ℕ, zero, suc, ◌+◌, ◌-◌, ◌*◌, ◌<◌, ◌≤◌, ◌⊎◌, inl, inr, Bool, true, false, List, [], ◌∷◌, Option, IsSome}
-use Rattle.std.proofs.Common.{refl, sym, ap, subst, ◌∙◌, arith, Contains}
+use Rattle.std.proofs.Common.{◌≡◌, ℕ, zero, suc, ◌+◌, ◌-◌, ◌<◌, ◌≤◌, ◌⊎◌, inl, inr, Bool, true, false, List, [], ◌∷◌, Option, IsSome}
+use Rattle.std.proofs.Common.{refl, sym, subst, ◌∙◌, arith, Contains}
 use Rattle.std.proofs.lemmas.Bool.{eqb-true, eqb-false, leb-true, le-leb, and_parts, and_from}
 use Rattle.std.specs.Prelude.{◌==◌, nat_le}
 use Rattle.std.specs.List.{AllByRecursion}
@@ -12,9 +12,9 @@ use Rattle.loopbound.specs.declared.graph.Move.{Move}
 use Rattle.loopbound.specs.declared.graph.Move.TheVariants.{Stay, Turn, Leave}
 use Rattle.loopbound.specs.Loops.{holds, move, move_by, turns_at, Counted, Counts, NoneTurned}
 use Rattle.loopbound.specs.declared.graph.Side.{Side}
-use Rattle.loopbound.specs.declared.graph.Side.TheVariants.{Least, Most}
+use Rattle.loopbound.specs.declared.graph.Side.TheVariants.{Most}
 use Rattle.loopbound.specs.Path.{at, Path, begin, step, Exactly}
-use Rattle.loopbound.specs.Table.{shapes, side_of, taken, gain, due, gains, dues, Allows, CanGo, Labels, Fits, FitsStep, Meets, TurnsNone}
+use Rattle.loopbound.specs.Table.{shapes, side_of, taken, Allows, CanGo, Labels, Fits, Meets, TurnsNone}
 use Rattle.loopbound.specs.Table.{Reason, at_entry, by_step, TurnReason, Tight, Runs, Running, LiesIn, Apart, InnerFirst, Nested}
 use Rattle.loopbound.proofs.EachLemmas.{each-both, each-map}
 use Rattle.loopbound.proofs.SoundLemmas.{all_counts, none_taken}

@@ -1,8 +1,7 @@
 -- Bounds that each step keeps are bounds of each path.
-use Rattle.std.proofs.Common.{◌≡◌, ℕ, ◌+◌, ◌-◌, ◌*◌, ◌<◌, ◌≤◌, ◌⊎◌, inl, inr, Bool, true, false, List, [], ◌∷◌, Option, Some, None, IsSome}
-use Rattle.std.proofs.Common.{refl, sym, ap, subst, ◌∙◌, arith, Contains}
+use Rattle.std.proofs.Common.{◌≡◌, ℕ, ◌+◌, ◌-◌, ◌*◌, inl, inr, Bool, true, false, List, [], ◌∷◌, Option}
+use Rattle.std.proofs.Common.{refl, ap, ◌∙◌, arith, Contains}
 use Rattle.std.proofs.Math.Nat.{add-mul}
-use Rattle.std.specs.List.{AllByRecursion}
 use Rattle.loopbound.specs.declared.graph.Bounds.{Bounds}
 use Rattle.loopbound.specs.declared.graph.Loop.{Loop}
 use Rattle.loopbound.specs.declared.graph.Step.{Step}
@@ -12,8 +11,8 @@ use Rattle.loopbound.specs.declared.graph.Move.TheVariants.{Stay, Turn, Leave}
 use Rattle.loopbound.specs.Loops.{holds, move, move_by, turns_at, Counted, Counts, NoneTurned}
 use Rattle.loopbound.specs.declared.graph.Side.{Side}
 use Rattle.loopbound.specs.declared.graph.Side.TheVariants.{Least, Most}
-use Rattle.loopbound.specs.Path.{at, Path, begin, step, Within}
-use Rattle.loopbound.specs.Table.{shapes, side_of, taken, gain, due, gains, dues, Allows, CanGo, HasTurn, HaveTurns, Labels, Fits, FitsStep}
+use Rattle.loopbound.specs.Path.{Path, begin, step, Within}
+use Rattle.loopbound.specs.Table.{shapes, side_of, taken, gain, due, gains, dues, Allows, CanGo, HasTurn, HaveTurns, Labels, Fits}
 use Rattle.loopbound.specs.Table.{Runs, Running, Bounded}
 
 -- ---- one loop
