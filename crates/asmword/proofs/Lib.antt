@@ -1,2 +1,6 @@
 mod Again
+mod BlankLaws
 mod Found
+mod HexLaws
+mod NameLaws
+mod PartLaws
