@@ -112,7 +112,7 @@ access_again a fits =
       byte_again a.byte a.in_register,
       value_again a.offset fits,
       number_again 120 a.len (omega arith),
-      le-leb a.first 29 (omega arith)
+      le-leb a.first 29 (omega arith),
     ) (sym (access_found a a.first a.byte a.len a.base a.offset refl refl refl refl refl))
 
 least_again : (o : BranchOffset) → IsTrue (is_least_offset o) → least_offset ≡ o

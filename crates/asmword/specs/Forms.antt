@@ -39,7 +39,6 @@ base_word (base.Constant c) = word.Constant (constant_number c)
 
 -- byte 0 of a register has the register's own name
 abbrev pub byte_part : ℕ → Part
-
 byte_part k = if k == 0 then All else (if k == 1 then B1 else (if k == 2 then B2 else B3))
 
 abbrev pub transfer_form : Mnemonic → Transfer → Form

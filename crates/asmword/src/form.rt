@@ -10,10 +10,7 @@ use isa::{Access, Bank, Base, Constant, Field, Inst, Jump, Operand, Part, Transf
 /// What an operand says. Its number may be out of the range that its instruction asks for.
 #[derive(Clone, Copy)]
 pub enum Word {
-    Field {
-        register: u64,
-        part: Part,
-    },
+    Field { register: u64, part: Part },
     Number(u64),
     Constant(u64),
     /// The name of a label, which stands aside.
@@ -71,7 +68,10 @@ pub fn form_of(i: &Inst) -> Form
             Word::Number(u64::from(body.count)),
         ),
         Inst::Branch {
-            condition, a, b, ..
+            condition,
+            a,
+            b,
+            ..
         } => three(
             Mnemonic::Branch(condition),
             Word::Label,
