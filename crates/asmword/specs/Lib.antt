@@ -6,6 +6,7 @@ pub mod Made
 pub mod Mnemonics
 pub mod Numbers
 pub mod Parts
+pub mod Printing
 pub mod Reading
 pub mod Texts
 pub mod Words

@@ -4,6 +4,7 @@
 mod blank;
 mod form;
 mod kinds;
+mod laws;
 mod make;
 mod mnemonic;
 mod moved;
@@ -17,6 +18,7 @@ mod word;
 pub use blank::{behind_blanks, split_word, trimmed};
 pub use form::{Form, Operands, Word, form_of};
 pub use kinds::{Kind, Shape};
+pub use laws::printed_is_read_again;
 pub use make::instruction;
 pub use mnemonic::{MNEMONICS, Mnemonic};
 pub use number::{read_number, read_numbered};
