@@ -1,0 +1,10 @@
+mod Again
+mod BlankLaws
+mod FormLaws
+mod Found
+mod HexLaws
+mod MnemonicLaws
+mod NameLaws
+mod PartLaws
+mod SolidLaws
+mod WordLaws

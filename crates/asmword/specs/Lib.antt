@@ -1,0 +1,12 @@
+pub mod Blanks
+pub mod Forms
+pub mod Instructions
+pub mod Kinds
+pub mod Made
+pub mod Mnemonics
+pub mod Numbers
+pub mod Parts
+pub mod Printing
+pub mod Reading
+pub mod Texts
+pub mod Words
