@@ -1,6 +1,6 @@
 -- An instruction is made again of what it is written with.
-use Rattle.std.proofs.Common.{◌≡◌, ℕ, ◌+◌, ◌-◌, ◌*◌, ◌%◌, ◌<◌, ◌≤◌, arith, refl, ap, sym, ◌∙◌, Option, Some, None, true, false, cond}
-use Rattle.std.specs.Prelude.{IsTrue, nat_lt, nat_le, ◌^◌, ◌==◌, ◌&&◌, ◌||◌, option_and_then, ℤ, pos, negsuc}
+use Rattle.std.proofs.Common.{◌≡◌, ℕ, ◌+◌, ◌-◌, ◌*◌, ◌<◌, ◌≤◌, arith, refl, ap, sym, ◌∙◌, Some, None, cond}
+use Rattle.std.specs.Prelude.{IsTrue, option_and_then, ℤ, pos, negsuc}
 use Rattle.std.proofs.lemmas.Bool.{le-leb, eqb-true}
 use Rattle.std.proofs.lemmas.Bool.Decides.{nat_tests}
 use Rattle.isa.specs.declared.access.Access.{Access}
@@ -21,19 +21,17 @@ use Rattle.isa.specs.declared.inst.Inst.TheVariants as inst
 use Rattle.isa.specs.declared.transfer.Bank.{Bank}
 use Rattle.isa.specs.declared.transfer.Bank.TheVariants.{Bank0, Bank1, Bank2}
 use Rattle.isa.specs.declared.transfer.Transfer.{Transfer}
-use Rattle.isa.specs.Decoded.{where_true, bank_at, transfer_at, body_at, constant_at, offset_at}
-use Rattle.isa.specs.Low.{is_low_base, is_low_operand}
+use Rattle.isa.specs.Decoded.{bank_at, constant_at}
+use Rattle.isa.specs.Low.{is_low_base}
 use Rattle.isa.specs.Program.{is_least, has_target, is_least_offset}
-use Rattle.isa.specs.Row.{Fits, OperandFits, JumpFits, constant_number, device_number}
+use Rattle.isa.specs.Row.{Fits, OperandFits, constant_number, device_number}
 use Rattle.isa.proofs.Ranged.{transfer_found, body_found, same_offset}
-use Rattle.asmword.specs.declared.form.Form.{Form}
 use Rattle.asmword.specs.declared.form.Operands.TheVariants.{Four}
-use Rattle.asmword.specs.declared.form.Word.{Word}
 use Rattle.asmword.specs.declared.mnemonic.Mnemonic.TheVariants as mnemonic
 use Rattle.asmword.specs.declared.form.Word.TheVariants as word
 use Rattle.asmword.specs.Forms.{field_word, value_word, jump_word, base_word, base_mnemonic, byte_part, written}
 use Rattle.asmword.specs.Instructions.{field_at, field_of, at_most, value_of, jump_of, number_of, register_of, register_base}
-use Rattle.asmword.specs.Instructions.{constant_of, byte_of, transfer_of, body_of, access_at, access_of, least_offset, made}
+use Rattle.asmword.specs.Instructions.{constant_of, byte_of, transfer_of, body_of, access_of, least_offset, made}
 use Rattle.asmword.specs.Made.{stands_least}
 use Rattle.asmword.proofs.Found.{field_found, access_found}
 

@@ -1,6 +1,6 @@
 -- What an instruction is written with, printed, is read again.
-use Rattle.std.proofs.Common.{◌≡◌, ◌≢◌, ℕ, ◌^◌, ◌<◌, ◌≤◌, ◌==◌, Bool, true, false, cond, List, [], ◌∷◌, ◌++◌, length, refl, sym, ap, ◌∙◌, arith}
-use Rattle.std.proofs.Common.{Option, Some, None, option_and_then, codes, ◌+◌, ◌*◌, lit<}
+use Rattle.std.proofs.Common.{◌≡◌, ℕ, ◌^◌, ◌<◌, ◌≤◌, ◌==◌, Bool, true, false, cond, List, [], ◌∷◌, ◌++◌, length, refl, ap, ◌∙◌, arith}
+use Rattle.std.proofs.Common.{Some, ◌+◌, ◌*◌, lit<}
 use Rattle.std.proofs.lemmas.Bool.{ne_eqb}
 use Rattle.textline.specs.Lines.{Lacks}
 use Rattle.isa.specs.declared.access.Access.{Access}
@@ -23,7 +23,6 @@ use Rattle.isa.specs.Low.{is_low_base}
 use Rattle.isa.specs.Row.{Fits, OperandFits, constant_number, device_number}
 use Rattle.std.specs.Prelude.{IsTrue}
 use Rattle.std.proofs.lemmas.Bool.Decides.{nat_tests}
-use Rattle.asmword.specs.declared.form.Form.{Form}
 use Rattle.asmword.specs.declared.form.Operands.{Operands}
 use Rattle.asmword.specs.declared.form.Operands.TheVariants as operands
 use Rattle.asmword.specs.declared.form.Word.{Word}
@@ -34,17 +33,17 @@ use Rattle.asmword.specs.declared.kinds.Shape.{Shape}
 use Rattle.asmword.specs.declared.kinds.Shape.TheVariants.{Nothing, One, Two, Three, Four}
 use Rattle.asmword.specs.declared.mnemonic.Mnemonic.{Mnemonic}
 use Rattle.asmword.specs.declared.mnemonic.Mnemonic.TheVariants as mnemonic
-use Rattle.asmword.specs.Blanks.{behind_blanks, trimmed, first_word, behind_word, parts_of, operand_parts}
-use Rattle.asmword.specs.Forms.{field_word, value_word, jump_word, base_word, base_mnemonic, byte_part, written}
+use Rattle.asmword.specs.Blanks.{behind_blanks, first_word, behind_word, parts_of, operand_parts}
+use Rattle.asmword.specs.Forms.{value_word, jump_word, base_word, base_mnemonic, byte_part, written}
 use Rattle.asmword.specs.Kinds.{shape_of}
 use Rattle.asmword.specs.Mnemonics.{mnemonic_name}
 use Rattle.asmword.specs.Printing.{Printable, ArePrintable}
-use Rattle.asmword.specs.Reading.{next, operands_in, mnemonic_in, form_in}
+use Rattle.asmword.specs.Reading.{next, operands_in, form_in}
 use Rattle.asmword.specs.Texts.{word_text, operands_text, form_text}
 use Rattle.asmword.specs.Words.{word_in}
 use Rattle.asmword.proofs.MnemonicLaws.{named}
 use Rattle.asmword.proofs.PartLaws.{parts_cut, parts_whole}
-use Rattle.asmword.proofs.SolidLaws.{solid, kept, solid_kept, solid_lacks, trimmed_word, trimmed_space, space_gone}
+use Rattle.asmword.proofs.SolidLaws.{kept, solid_kept, solid_lacks, trimmed_space, space_gone}
 use Rattle.asmword.proofs.SolidLaws.{first_solid, behind_solid, first_none, first_space, behind_none, behind_space}
 use Rattle.asmword.proofs.WordLaws.{Good, word_back, word_good}
 

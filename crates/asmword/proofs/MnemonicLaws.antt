@@ -1,5 +1,5 @@
 -- Each mnemonic's name is read as that mnemonic, in the table.
-use Rattle.std.proofs.Common.{◌≡◌, ℕ, ◌<◌, true, length, refl, lit<, Some}
+use Rattle.std.proofs.Common.{◌≡◌, refl, lit<, Some}
 use Rattle.isa.specs.declared.control.Condition.{Condition}
 use Rattle.isa.specs.declared.control.Condition.TheVariants.{Lt, Eq, Le, Gt, Ne, Ge, BitClear, BitSet}
 use Rattle.isa.specs.declared.inst.AluOp.{AluOp}

@@ -1,5 +1,5 @@
 -- The mnemonics of a table, tried one by one.
-use Rattle.std.proofs.Common.{◌≡◌, ℕ, true, false, cond, List, [], ◌∷◌, length, refl, sym, ap, ◌∙◌, arith, Option, Some, None}
+use Rattle.std.proofs.Common.{◌≡◌, ℕ, true, false, cond, List, [], ◌∷◌, length, refl, sym, ap, ◌∙◌, arith, Some, None}
 use Rattle.std.specs.Prelude.{find}
 use Rattle.asmword.specs.declared.mnemonic.Mnemonic.{Mnemonic}
 use Rattle.asmword.specs.Reading.{is_named, named_among}

@@ -13,7 +13,8 @@ parts_cut byte [] behind l =
     let e : (byte == byte) ≡ true = grind (arith, nat_tests) in
     ap (λ t. cond t ([] ∷ parts_of byte behind) (onto_first byte (parts_of byte behind))) e
 parts_cut byte (b ∷ front) behind l =
-    ap (λ t. cond t ([] ∷ parts_of byte (front ++ byte ∷ behind)) (onto_first b (parts_of byte (front ++ byte ∷ behind)))) (ne_eqb b byte l.0)
+    ap (λ t. cond t ([] ∷ parts_of byte (front ++ byte ∷ behind)) (onto_first b (parts_of byte (front ++ byte ∷ behind)))) (ne_eqb b byte
+    l.0)
     ∙ ap (onto_first b) (parts_cut byte front behind l.1)
 
 pub parts_whole : (byte : ℕ) (text : List ℕ) → Lacks byte text → parts_of byte text ≡ text ∷ []

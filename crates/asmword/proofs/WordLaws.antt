@@ -1,13 +1,13 @@
 -- An operand's printed text is read as that operand.
-use Rattle.std.proofs.Common.{◌≡◌, ◌≢◌, ℕ, ◌^◌, ◌<◌, ◌≤◌, Bool, true, false, cond, not, ◌&&◌, ◌||◌, ◌==◌, nat_lt, nat_le, List, [], ◌∷◌, ◌++◌}
-use Rattle.std.proofs.Common.{length, refl, sym, ap, ◌∙◌, arith, Option, Some, None, option_and_then, min, codes}
+use Rattle.std.proofs.Common.{◌≡◌, ℕ, ◌^◌, ◌<◌, Bool, true, false, cond, not, ◌&&◌, ◌==◌, nat_lt, List, [], ◌∷◌, ◌++◌}
+use Rattle.std.proofs.Common.{length, refl, ap, ◌∙◌, arith, Some, None, option_and_then, codes}
 use Rattle.std.specs.Option.{option_map}
 use Rattle.std.specs.List.{list_all, slice_index}
 use Rattle.std.specs.Char.{is_ascii_digit, to_ascii_uppercase}
 use Rattle.std.specs.Fmt.{decimal}
 use Rattle.std.proofs.lemmas.Bool.{and_parts, and_from, lt-ltb}
 use Rattle.std.proofs.lemmas.Bool.Decides.{nat_tests}
-use Rattle.textline.specs.Numbers.{decimal_in, is_decimal}
+use Rattle.textline.specs.Numbers.{decimal_in}
 use Rattle.textline.specs.Lines.{Lacks}
 use Rattle.textline.proofs.DecimalLaws.{decimal_reads}
 use Rattle.textline.proofs.Printed.{decimal_digits, decimal_lacks, is_decimal_told}
@@ -19,9 +19,10 @@ use Rattle.asmword.specs.declared.kinds.Kind.{Kind}
 use Rattle.asmword.specs.declared.kinds.Kind.TheVariants.{Field, Value, Number, Register, First, Constant, Label, Jump}
 use Rattle.asmword.specs.Blanks.{parts_of}
 use Rattle.asmword.specs.Numbers.{whole, hex_in, number_in, numbered}
-use Rattle.asmword.specs.Texts.{part_name, field_text, word_text}
+use Rattle.asmword.specs.Texts.{field_text, word_text}
 use Rattle.asmword.specs.Printing.{Printable}
-use Rattle.asmword.specs.Words.{is_name_byte, is_name, is_below, part_in, field_from, field_in, first_of, behind_ampersand, else_, number_word}
+use Rattle.asmword.specs.Words.{is_name_byte, is_name, is_below, part_in, field_from, field_in, first_of, behind_ampersand, else_}
+use Rattle.asmword.specs.Words.{number_word}
 use Rattle.asmword.specs.Words.{word_in}
 use Rattle.asmword.proofs.PartLaws.{parts_cut, parts_whole}
 use Rattle.asmword.proofs.SolidLaws.{solid, solid_append, digits_solid}
@@ -131,7 +132,8 @@ register_unnamed : (n : ℕ) → n < 32 → is_name (82 ∷ decimal n) ≡ false
 unfolding is_name
 register_unnamed n h =
     ap (λ o. list_all is_name_byte (82 ∷ decimal n) && true && not (is_below 32 o)) (register_back n (omega arith))
-    ∙ ap (λ t. list_all is_name_byte (82 ∷ decimal n) && true && not t) (lt-ltb n 32 h) ∙ none (list_all is_name_byte (82 ∷ decimal n) && true)
+    ∙ ap (λ t. list_all is_name_byte (82 ∷ decimal n) && true && not t) (lt-ltb n 32 h) ∙ none (list_all is_name_byte (82 ∷ decimal n) &&
+    true)
   where
     none : (t : Bool) → (t && false) ≡ false
     none true = refl

@@ -9,7 +9,7 @@ use Rattle.isa.specs.declared.field.Field.{Field}
 use Rattle.isa.specs.declared.field.Operand.{Operand}
 use Rattle.isa.specs.declared.field.Operand.TheVariants as operand
 use Rattle.isa.specs.declared.field.Part.{Part}
-use Rattle.isa.specs.declared.field.Part.TheVariants.{B0, B1, B2, B3, All}
+use Rattle.isa.specs.declared.field.Part.TheVariants.{B1, B2, B3, All}
 use Rattle.isa.specs.declared.inst.Inst.{Inst}
 use Rattle.isa.specs.declared.inst.Inst.TheVariants.{Alu, Not, Jmp, Jal, Ldi, Lmbd, Halt, Xin, Xout, Loop, Branch, Qba, Load, Store}
 use Rattle.isa.specs.declared.transfer.Transfer.{Transfer}

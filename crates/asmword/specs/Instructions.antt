@@ -1,5 +1,5 @@
 -- The instruction that a mnemonic with operands is. In place of a label's word stands the least number that its type has.
-use Rattle.std.specs.Prelude.{ℕ, ◌+◌, ◌-◌, ◌*◌, ◌<◌, ◌≤◌, ◌==◌, ◌&&◌, Bool, true, false, IsTrue, nat_lt, nat_le, if◌then◌else◌}
+use Rattle.std.specs.Prelude.{ℕ, ◌+◌, ◌-◌, ◌*◌, ◌<◌, ◌≤◌, ◌&&◌, Bool, IsTrue, nat_lt, nat_le, if◌then◌else◌}
 use Rattle.std.specs.Prelude.{Option, Some, None, option_and_then}
 use Rattle.std.proofs.Common.{arith}
 use Rattle.std.proofs.lemmas.Bool.Decides.{nat_tests}
@@ -14,14 +14,13 @@ use Rattle.isa.specs.declared.field.Field.{Field}
 use Rattle.isa.specs.declared.field.Operand.{Operand}
 use Rattle.isa.specs.declared.field.Operand.TheVariants as operand
 use Rattle.isa.specs.declared.field.Part.{Part}
-use Rattle.isa.specs.declared.field.Part.TheVariants.{B0, B1, B2, B3, W0, W1, W2, All}
+use Rattle.isa.specs.declared.field.Part.TheVariants.{B1, B2, B3, All}
 use Rattle.isa.specs.declared.inst.Inst.{Inst}
 use Rattle.isa.specs.declared.inst.Inst.TheVariants as inst
 use Rattle.isa.specs.declared.transfer.Transfer.{Transfer}
 use Rattle.isa.specs.Low.{is_low_base, is_low_operand}
 use Rattle.isa.specs.Ranges.{first_of, last_of}
 use Rattle.isa.specs.Decoded.{where_true, transfer_at, body_at, constant_at, offset_at}
-use Rattle.asmword.specs.declared.form.Form.{Form}
 use Rattle.asmword.specs.declared.form.Operands.{Operands}
 use Rattle.asmword.specs.declared.form.Operands.TheVariants.{Nothing, One, Two, Three, Four}
 use Rattle.asmword.specs.declared.form.Word.{Word}

@@ -2,7 +2,6 @@
 use Rattle.std.specs.Prelude.{◌≡◌, ◌||◌, Bool, not, IsTrue}
 use Rattle.isa.specs.declared.inst.Inst.{Inst}
 use Rattle.isa.specs.Program.{has_target, is_least}
-use Rattle.asmword.specs.declared.form.Form.{Form}
 use Rattle.asmword.specs.declared.form.Operands.{Operands}
 use Rattle.asmword.specs.declared.mnemonic.Mnemonic.{Mnemonic}
 use Rattle.asmword.specs.Forms.{written}

@@ -1,7 +1,7 @@
 -- Numbers of assembly text, and what has a number: registers and constants. 2 ^ 32 stands for each number that is greater.
 use Rattle.std.specs.Prelude.{ℕ, ◌==◌, ◌&&◌, ◌^◌, nat_lt, if◌then◌else◌, min, List, [], ◌∷◌, length, drop, slice_index}
 use Rattle.std.specs.Prelude.{Option, Some, None, option_map}
-use Rattle.std.specs.Char.{digit_value, is_ascii_hexdigit, to_ascii_uppercase}
+use Rattle.std.specs.Char.{is_ascii_hexdigit, to_ascii_uppercase}
 use Rattle.std.specs.List.{list_all}
 use Rattle.std.specs.Str.Parse.{digits_value}
 use Rattle.textline.specs.Numbers.{decimal_in}

@@ -1,7 +1,6 @@
 -- The operands that are printed for each kind.
-use Rattle.std.specs.Prelude.{ℕ, ◌^◌, ◌<◌}
+use Rattle.std.specs.Prelude.{◌^◌, ◌<◌}
 use Rattle.isa.specs.declared.field.Part.TheVariants.{B1, B2, B3, All}
-use Rattle.asmword.specs.declared.form.Form.{Form}
 use Rattle.asmword.specs.declared.form.Operands.{Operands}
 use Rattle.asmword.specs.declared.form.Operands.TheVariants as operands
 use Rattle.asmword.specs.declared.form.Word.{Word}

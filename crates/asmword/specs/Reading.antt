@@ -1,5 +1,5 @@
 -- The mnemonic and the operands that a text has.
-use Rattle.std.specs.Prelude.{ℕ, Bool, ◌==◌, if◌then◌else◌, List, [], ◌∷◌, length, drop, slice_get, Option, Some, None, option_map}
+use Rattle.std.specs.Prelude.{ℕ, Bool, ◌==◌, if◌then◌else◌, List, length, drop, slice_get, Option, Some, None}
 use Rattle.std.specs.Prelude.{option_and_then, find}
 use Rattle.std.specs.Str.{str_eq_ignore_ascii_case}
 use Rattle.asmword.specs.declared.mnemonic.TheConstants.{MNEMONICS}
@@ -7,7 +7,6 @@ use Rattle.asmword.specs.declared.form.Form.{Form}
 use Rattle.asmword.specs.declared.form.Operands.{Operands}
 use Rattle.asmword.specs.declared.form.Operands.TheVariants as operands
 use Rattle.asmword.specs.declared.form.Word.{Word}
-use Rattle.asmword.specs.declared.form.Word.TheVariants as word
 use Rattle.asmword.specs.declared.kinds.Kind.{Kind}
 use Rattle.asmword.specs.declared.kinds.Shape.{Shape}
 use Rattle.asmword.specs.declared.kinds.Shape.TheVariants.{Nothing, One, Two, Three, Four}

@@ -1,4 +1,4 @@
-use Rattle.std.proofs.Common.{get_or, rules, arith}
+use Rattle.std.proofs.Common.{get_or}
 use Rattle.asmword.proofs.HexLaws.{digits_step, value_step, digit_of}
 use Rattle.asmword.proofs.number.read_hex.Goals as goal
 
