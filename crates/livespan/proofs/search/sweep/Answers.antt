@@ -1,0 +1,33 @@
+use Rattle.std.proofs.Common.{◌≡◌, ◌-◌, ◌+◌, refl, sym, ap, ◌∙◌, arith, false}
+use Rattle.livespan.specs.Marks.{AreSound, AreClosedFrom, MarksMore}
+use Rattle.livespan.proofs.Marked.{more-more, closed-first, closed-step, closed-end}
+use Rattle.livespan.proofs.search.sweep.Goals as goal
+
+pub loop-place-init : goal.loop-place-init
+loop-place-init c = record {
+  within = omega (arith, c.requires.marks);
+  short = omega arith;
+  len = refl;
+  sound = λ s. s;
+  more = (refl, refl);
+  closed = closed-first c.args.kinds.now c.args.turn.first c.args.turn.last c.args.v c.args.marks.now;
+}
+
+pub loop-place-preserved : goal.loop-place-preserved
+loop-place-preserved c =
+    let i = c.loop-place.invariant in
+    record {
+      within = omega arith;
+      short = omega arith;
+      len = c.mark.ensures.len ∙ i.len;
+      sound = λ s. c.mark.ensures.sound (i.sound s);
+      more = more-more c.loop-place.changed c.mark.result c.args.marks.now c.loop-place.marks c.mark.new.marks i.more c.mark.ensures.more;
+      closed = closed-step c.args.kinds.now c.args.turn.first c.args.turn.last c.args.v c.loop-place.changed c.mark.result
+          c.loop-place.marks c.mark.new.marks c.loop-place.place (c.loop-place.place - 1) (omega arith) c.mark.ensures.more i.closed
+          c.mark.ensures.closed;
+    }
+
+pub returns-clause-closed : goal.returns-clause-closed
+returns-clause-closed c =
+    closed-end c.args.kinds.now c.args.turn.first c.args.turn.last c.args.v c.loop-place.changed c.loop-place.marks c.loop-place.place
+    c.loop-place-test.false c.loop-place.invariant.closed
