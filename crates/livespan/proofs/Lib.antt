@@ -1,3 +1,4 @@
+pub mod Back
 pub mod Walk
 pub mod Hulls
 pub mod Found

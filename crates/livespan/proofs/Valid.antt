@@ -4,7 +4,7 @@ use Rattle.std.proofs.Common.{sym, ap, ◌∙◌, subst, arith, Option, Some, No
 use Rattle.std.specs.Prelude.{slice_get, Contains, nat_lt, ◌==◌}
 use Rattle.std.specs.List.{list_all}
 use Rattle.std.proofs.lemmas.Bool.{and_parts, cases_lt, true≢false}
-use Rattle.std.proofs.lemmas.List.{length-map}
+use Rattle.std.proofs.lemmas.List.{length-map, length-take-le}
 use Rattle.std.proofs.lemmas.Option.{same_Some, none-some, slice_get_within, slice_get-get_or}
 use Rattle.prunum.specs.Width.{byte_count}
 use Rattle.prunum.specs.declared.width.Width.{Width}
@@ -12,6 +12,7 @@ use Rattle.midcode.specs.declared.op.Op.{Op}
 use Rattle.midcode.specs.declared.op.OpKind.{OpKind}
 use Rattle.midcode.specs.declared.register.Label.{Label}
 use Rattle.midcode.specs.declared.register.VReg.{VReg}
+use Rattle.midcode.specs.declared.signature.Signature.{Signature}
 use Rattle.midcode.specs.Operation.{reads, writes, target_of, parameters}
 use Rattle.midcode.specs.Function.{Function, IsValidFunction, kinds, fits, has, each_of, same_widths}
 use Rattle.midcode.proofs.Valid.{Parts, parts-of}
@@ -134,3 +135,8 @@ named-in f ks registers valid same number =
     let P : List OpKind → Type 0 = λ js. AreNamed js (length f.registers) in
     let Q : ℕ → Type 0 = λ n. AreNamed ks n in
     subst Q (sym number) (subst P (sym same) (valid-named f valid))
+
+pub count-is : (s t : Signature) → s ≡ t → s.count ≤ length s.params → s.count ≡ length (parameters t)
+count-is s t same all =
+    let P : Signature → Type 0 = λ x. s.count ≡ length (parameters x) in
+    subst P same (sym (length-take-le s.count s.params all))

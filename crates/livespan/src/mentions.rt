@@ -69,7 +69,7 @@ fn mention_parameters(alloc: Global, registers: usize, params: u8) -> Result<Vec
 {
     let mut hulls = vec![in alloc; None; registers]?;
     for number in 0..params {
-        mention(&mut hulls, VReg(u32::from(number)), 0);
+        mention(&mut hulls, VReg(number as u32), 0);
     }
     Ok(hulls)
 }

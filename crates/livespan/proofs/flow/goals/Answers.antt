@@ -11,7 +11,7 @@ use Rattle.livespan.proofs.flow.goals.Goals as goal
 
 pub goal-requires : goal.goal-requires
 goal-requires c = λ l is.
-    omega (arith, c.in_ok-places.ensures.len,
+    omega (arith, c.in_ok-places.ensures.len, ap length c.deref.ensures.value,
     c.requires c.loop-place.place c.kind_at.result l c.kind_at.ensures (sym c.target.ensures ∙ is))
 
 pub loop-place-preserved : goal.loop-place-preserved
@@ -22,7 +22,8 @@ loop-place-preserved c =
     let named : (l : Label) → target_of k ≡ Some l → l.0 < length c.in_ok-places.places.items =
     λ l is. omega (arith, c.in_ok-places.ensures.len, c.requires i k l c.kind_at.ensures is) in
     let is : c.goal.result ≡ goal_in c.in_ok-places.places.items (target_of k) =
-    c.goal.ensures ∙ ap (goal_in c.in_ok-places.places.items) c.target.ensures in
+    c.goal.ensures ∙ ap (λ ps. goal_in ps c.target.result) c.deref.ensures.value ∙
+    ap (goal_in c.in_ok-places.places.items) c.target.ensures in
     let all = goals-more ks c.in_ok-places.places.items c.loop-place.goals.items i k c.goal.result c.kind_at.ensures
     c.in_ok-places.ensures.places named is c.loop-place.invariant.len c.loop-place.invariant.goes in
     let P : List (Option ℕ) → Type 0 =

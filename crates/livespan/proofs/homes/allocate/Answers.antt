@@ -9,12 +9,6 @@ use Rattle.livespan.specs.Spans.{AreSpansOf}
 use Rattle.livespan.proofs.Spread.{allocation-other}
 use Rattle.livespan.proofs.homes.allocate.Goals as goal
 
-pub allocate_spans-requires : goal.allocate_spans-requires
-allocate_spans-requires c =
-    let P : List Interval → Type 0 = λ xs. AreSpans c.args.f.now.registers xs in
-    let Q : List Width → Type 0 = λ ws. AreSpans ws c.deref.result.now in
-    subst Q (sym c.registers.ensures) (subst P (sym c.deref.ensures.value) c.in_ok-spans.ensures.list)
-
 pub returns : goal.returns
 returns c =
     let f = c.args.f.now in

@@ -5,7 +5,7 @@ use Rattle.livespan.proofs.operations.operations.Goals as goal
 
 pub loop-at-preserved : goal.loop-at-preserved
 loop-at-preserved c =
-    let P : List OpKind → Type 0 = λ ks. Walk c.args.f.now.nodes ks c.next.result in
+    let P : List OpKind → Type 0 = λ ks. Walk c.args.f.now.nodes ks c.next-at.result in
     subst P (sym c.in_ok-push.ensures.items)
-    (walk-next c.args.f.now.nodes c.loop-at.kinds.items c.loop-at.at c.in-Some.node _ c.next.result c.loop-at.invariant c.in-Some.is
-    c.get.ensures c.next.ensures.value c.next.ensures.node)
+    (walk-next c.args.f.now.nodes c.loop-at.kinds.items c.loop-at.at c.in-Some.node _ c.next-at.result c.loop-at.invariant c.in-Some.is
+    c.get.ensures c.next-at.ensures.value c.next-at.ensures.node)
