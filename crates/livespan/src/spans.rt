@@ -3,6 +3,7 @@
 ghost use Rattle.std.specs.Prelude.{◌≡◌, ◌≤◌, ◌<◌, length, Some, OnOk, IfOk};
 ghost use Rattle.std.specs.Bool.{OnTrue};
 ghost use Rattle.livespan.specs.declared.area.Area.{Area};
+ghost use Rattle.midcode.specs.Operation.{parameters};
 ghost use Rattle.midcode.specs.Function.{kinds, IsValidFunction};
 ghost use Rattle.subreg.specs.Span.{IsSpan, MentionedAt};
 ghost use Rattle.livespan.specs.Live.{AreGoals, AreLoops, AreStarts, GoesBack, IsHull, AreHulls, IsStraight, TellsCrossing, IsOver};
@@ -13,7 +14,7 @@ use crate::flow::{goals, loops, starts};
 use crate::mentions::mentions;
 use crate::operations::{is_read, is_written, kind_at, operations};
 use crate::search::may_be_read;
-use midcode::{MidFn, OpKind, VReg};
+use midcode::{MidFn, OpKind, Signature, VReg};
 use prunum::Memory;
 use std::alloc::Global;
 use subreg::Interval;
@@ -164,18 +165,24 @@ fn by_number(alloc: Global, f: &MidFn, flow: &Flow, hulls: &[Option<Area>]) -> R
     Ok(spans)
 }
 
+fn parameter_count(signature: Signature) -> u8
+    ensures { result ≡ length (parameters signature) }
+{
+    signature.count
+}
+
 /// The spans of a function with these operations, in the order of its registers.
-fn spans_of(alloc: Global, f: &MidFn, kinds: &[OpKind]) -> Result<Vec<Interval>, Memory>
+fn spans_of(alloc: Global, f: &MidFn, operations: &[OpKind]) -> Result<Vec<Interval>, Memory>
     requires valid { IsValidFunction f.now }
-    requires kinds { kinds.now ≡ kinds f.now }
+    requires operations { operations.now ≡ kinds f.now }
     ensures { IfOk result (λ spans. AreSpansBelow f.now (length f.now.registers) spans.items) }
 {
-    let goals = goals(alloc, kinds, f.labels() as usize)?;
+    let goals = goals(alloc, operations, f.labels() as usize)?;
     let loops = loops(alloc, &goals)?;
-    let starts = starts(alloc, kinds)?;
-    let hulls = mentions(alloc, kinds, f.registers().len(), f.signature().count)?;
+    let starts = starts(alloc, operations)?;
+    let hulls = mentions(alloc, operations, f.registers().len(), parameter_count(*f.signature()))?;
     let flow = Flow {
-        kinds,
+        kinds: operations,
         goals: &goals,
         loops: &loops,
         starts: &starts,
