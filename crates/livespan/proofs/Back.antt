@@ -1,5 +1,5 @@
 -- What a list holds after its elements were lent.
-use Rattle.std.proofs.Common.{◌≡◌, ℕ, ◌≤◌, List, [], ◌++◌, length, take, drop, refl, sym, ap, ◌∙◌, arith, append-nil}
+use Rattle.std.proofs.Common.{◌≡◌, ℕ, List, [], ◌++◌, length, take, drop, ap, ◌∙◌, arith, append-nil}
 use Rattle.std.proofs.lemmas.List.{drop_all, take_all}
 
 pub put-back : {X : Type 0} (len : ℕ) (new old : List X) → len ≡ length old → length new ≡ length old

@@ -1,15 +1,12 @@
 -- Which loops a span crosses.
-use Rattle.std.proofs.Common.{◌≡◌, ◌≢◌, ℕ, ◌+◌, ◌<◌, ◌≤◌, ◌⊎◌, inl, inr, List, length, refl, sym, ap, ◌∙◌, subst, arith, min, max}
-use Rattle.std.specs.Prelude.{slice_get, Some, Option}
-use Rattle.std.proofs.lemmas.Bool.{cases_lt, cases_eq}
-use Rattle.std.proofs.lemmas.Option.{slice_get_within}
+use Rattle.std.proofs.Common.{◌≡◌, ◌≢◌, ℕ, ◌<◌, ◌≤◌, ◌⊎◌, inl, inr, List, length, sym, subst, arith}
+use Rattle.std.specs.Prelude.{Option}
+use Rattle.std.proofs.lemmas.Bool.{cases_lt}
 use Rattle.midcode.specs.declared.register.VReg.{VReg}
 use Rattle.midcode.specs.declared.op.OpKind.{OpKind}
-use Rattle.midcode.specs.declared.register.Label.{Label}
-use Rattle.midcode.specs.Operation.{target_of}
 use Rattle.midcode.specs.Meaning.{standing_at}
 use Rattle.midcode.specs.Function.{Function, kinds}
-use Rattle.subreg.specs.Span.{Stands, Within, ReadsAt, WritesAt, MentionedAt, Follows, next, goes, MayBeRead, here, onwards, IsLoop, Crosses}
+use Rattle.subreg.specs.Span.{Within, ReadsAt, WritesAt, MentionedAt, Follows, next, goes, MayBeRead, here, onwards, Crosses}
 use Rattle.livespan.specs.declared.area.Area.{Area}
 use Rattle.livespan.specs.Live.{IsHull, IsStraight, AreGoals, GoesBack}
 use Rattle.livespan.proofs.Goes.{loop-is, standing-stands}
@@ -59,15 +56,16 @@ pub crosses-inside : (f : Function) (v : VReg) (hull turn : Area) → IsHull (Me
 crosses-inside f v hull turn is no_first no_last crosses =
     let at = mentioned-in f v turn.first turn.last crosses in
     let w = is.all at.0 at.2 in
-    let in_loop = at.1 in
-    (elim (cases_lt turn.first hull.first) [
-      | inl less ↦ absurd (no_first (omega (arith, less), omega (arith, w.0, in_loop.1)))
-      | inr more ↦ more
-    ],
-    elim (cases_lt hull.last turn.last) [
-      | inl less ↦ absurd (no_last (omega (arith, w.1, in_loop.0), omega (arith, less)))
-      | inr more ↦ more
-    ])
+    let in_loop = at.1 in (
+      elim (cases_lt turn.first hull.first) [
+        | inl less ↦ absurd (no_first (omega (arith, less), omega (arith, w.0, in_loop.1)))
+        | inr more ↦ more
+      ],
+      elim (cases_lt hull.last turn.last) [
+        | inl less ↦ absurd (no_last (omega (arith, w.1, in_loop.0), omega (arith, less)))
+        | inr more ↦ more
+      ],
+    )
 
 -- ---- loops around the hull
 

@@ -1,14 +1,14 @@
 -- Spans, loop by loop.
-use Rattle.std.proofs.Common.{◌≡◌, ℕ, ◌+◌, ◌<◌, ◌≤◌, ◌⊎◌, inl, inr, List, length, get_or, refl, sym, ap, ◌∙◌, subst, arith}
+use Rattle.std.proofs.Common.{◌≡◌, ℕ, ◌+◌, ◌<◌, ◌≤◌, inl, inr, List, length, sym, ap, ◌∙◌, subst, arith}
 use Rattle.std.specs.Prelude.{slice_get, Some, Option}
 use Rattle.std.proofs.lemmas.Bool.{cases_lt}
-use Rattle.std.proofs.lemmas.Option.{same_Some, slice_get-get_or, slice_get_within}
+use Rattle.std.proofs.lemmas.Option.{same_Some, slice_get_within}
 use Rattle.midcode.specs.declared.op.OpKind.{OpKind}
 use Rattle.midcode.specs.declared.register.VReg.{VReg}
 use Rattle.midcode.specs.Function.{Function, kinds}
-use Rattle.subreg.specs.Span.{Crosses, Holds, IsSpan, MentionedAt, Within}
+use Rattle.subreg.specs.Span.{Crosses, Holds, IsSpan, MentionedAt}
 use Rattle.livespan.specs.declared.area.Area.{Area}
-use Rattle.livespan.specs.Live.{IsHull, IsOver, AreLoops, AreGoals, GoesBack}
+use Rattle.livespan.specs.Live.{IsHull, IsOver, AreLoops, AreGoals}
 use Rattle.livespan.proofs.Goes.{loop-goes}
 
 -- the hull, extended over the first of the loops

@@ -1,9 +1,9 @@
 -- Where operations go to.
-use Rattle.std.proofs.Common.{◌≡◌, ℕ, zero, suc, ◌+◌, ◌<◌, ◌≤◌, ◌⊎◌, inl, inr, Bool, true, false, List, [], ◌∷◌, ◌++◌, length, get_or, drop}
-use Rattle.std.proofs.Common.{refl, sym, ap, ◌∙◌, subst, arith, Option, Some, None, length-set, set}
-use Rattle.std.specs.Prelude.{slice_get, slice_set, ◌==◌, if◌then◌else◌, nat_le, IsTrue}
-use Rattle.std.proofs.lemmas.Bool.{cases_eq, cases_lt, eq-eqb, ne_eqb, cond-true, cond-false, cases_Bool, eqb-true, eqb-false}
-use Rattle.std.proofs.lemmas.Option.{same_Some, none-some, slice_get-get_or, slice_get_within, get_or_from_slice_get}
+use Rattle.std.proofs.Common.{◌≡◌, ℕ, zero, suc, ◌+◌, ◌<◌, ◌⊎◌, inl, inr, List, [], ◌∷◌, length, get_or, drop}
+use Rattle.std.proofs.Common.{refl, sym, ap, ◌∙◌, subst, arith, Option, Some, None, length-set}
+use Rattle.std.specs.Prelude.{slice_get, slice_set, ◌==◌, if◌then◌else◌, IsTrue}
+use Rattle.std.proofs.lemmas.Bool.{cases_eq, eq-eqb, ne_eqb, cond-true, cond-false}
+use Rattle.std.proofs.lemmas.Option.{same_Some, none-some, slice_get_within}
 use Rattle.std.proofs.lemmas.List.{get_or-set_other, get_or-set_same}
 use Rattle.midcode.specs.declared.register.Label.{Label}
 use Rattle.midcode.specs.declared.op.OpKind.{OpKind}
@@ -11,9 +11,8 @@ use Rattle.midcode.specs.declared.op.OpKind.TheVariants as op
 use Rattle.midcode.specs.Operation.{label_of, target_of}
 use Rattle.midcode.specs.Meaning.{standing_at}
 use Rattle.subreg.specs.Span.{Stands, Follows, next, goes, IsLoop, is_onward}
-use Rattle.subreg.proofs.Elements.{get-push_front, get-push_last}
 use Rattle.livespan.specs.declared.area.Area.{Area}
-use Rattle.livespan.specs.Live.{AreGoals, GoesBack, IsPlain, ArePlaces, goal_at, goal_in, with_label}
+use Rattle.livespan.specs.Live.{AreGoals, GoesBack, ArePlaces, goal_at, goal_in, with_label}
 
 -- ---- labels
 

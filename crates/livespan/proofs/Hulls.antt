@@ -1,6 +1,6 @@
 -- Hulls, mention by mention.
 use Rattle.std.proofs.Common.{◌≡◌, ◌≢◌, ℕ, zero, suc, replicate, ◌+◌, ◌<◌, ◌≤◌, ◌⊎◌, inl, inr, List, [], ◌∷◌, ◌++◌, length, get_or, take, refl, sym, ap, ◌∙◌}
-use Rattle.std.proofs.Common.{subst, arith, length-set, Option, Some, None}
+use Rattle.std.proofs.Common.{subst, arith, Option, Some, None}
 use Rattle.std.specs.Prelude.{slice_get, slice_set, Contains}
 use Rattle.std.proofs.lemmas.Bool.{cases_eq, cases_lt}
 use Rattle.std.proofs.lemmas.Option.{same_Some, none-some, slice_get-get_or, slice_get_within}
@@ -10,10 +10,10 @@ use Rattle.midcode.specs.declared.register.VReg.{VReg}
 use Rattle.midcode.specs.declared.op.OpKind.{OpKind}
 use Rattle.midcode.specs.Operation.{reads, writes, parameters}
 use Rattle.midcode.specs.Function.{Function, kinds}
-use Rattle.subreg.specs.Span.{Stands, Within, ReadsAt, WritesAt, MentionedAt}
+use Rattle.subreg.specs.Span.{Stands, ReadsAt, WritesAt, MentionedAt}
 use Rattle.subreg.proofs.Elements.{get-set_same, get-set_other}
 use Rattle.livespan.specs.declared.area.Area.{Area}
-use Rattle.livespan.specs.Live.{Known, Mentions, up_to, with_mention, with_written, IsHull, AreHulls}
+use Rattle.livespan.specs.Live.{Known, up_to, with_mention, with_written, IsHull, AreHulls}
 
 pub same_register : (v w : VReg) → v.0 ≡ w.0 → v ≡ w
 same_register v w e = let make : ℕ → VReg = λ n. record { 0 = n } in ap make e
@@ -250,8 +250,10 @@ known-written ks params place k hulls (Some w) stands is named are =
                         | inl read ↦ inl (inr (same, read-of ks place p k v stands same read))
                         | inr written ↦
                             let number : VReg → ℕ = λ x. x.0 in
-                            inr (same,
-                            ap number (same_Some v w (sym (written-of ks place p k v stands same written) ∙ is)))
+                            inr (
+                              same,
+                              ap number (same_Some v w (sym (written-of ks place p k v stands same written) ∙ is)),
+                            )
                       ]
                   | inr other ↦ inl (inl (inr (omega (arith, by.0, other), by.1)))
                 ]

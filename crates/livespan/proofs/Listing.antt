@@ -1,7 +1,7 @@
 -- The spans of a function, one by one, and then in the order of their starts.
-use Rattle.std.proofs.Common.{◌≡◌, ◌≢◌, ℕ, ◌+◌, ◌<◌, ◌≤◌, ◌⊎◌, ◌↔◌, inl, inr, Bool, true, false, List, [], ◌∷◌, ◌++◌, length, get_or, refl}
+use Rattle.std.proofs.Common.{◌≡◌, ℕ, ◌+◌, ◌<◌, ◌⊎◌, inl, inr, Bool, false, List, [], ◌∷◌, ◌++◌, length, get_or}
 use Rattle.std.proofs.Common.{sym, ap, ◌∙◌, subst, arith, Option, Some, None, length-append, eqb, eq-eqb, ne_eqb}
-use Rattle.std.specs.Prelude.{slice_get, All, Contains, IsPermutation}
+use Rattle.std.specs.Prelude.{slice_get, All, IsPermutation}
 use Rattle.std.specs.List.{IsDistinct}
 use Rattle.std.specs.List.Sorted.{IsNonDecreasingBy}
 use Rattle.std.proofs.lemmas.Bool.{cases_eq, cases_lt, true≢false}
@@ -12,12 +12,11 @@ use Rattle.midcode.specs.declared.register.VReg.{VReg}
 use Rattle.midcode.specs.Function.{Function, IsValidFunction}
 use Rattle.subreg.specs.declared.home.Interval.{Interval}
 use Rattle.subreg.specs.Span.{IsSpan, MentionedAt}
-use Rattle.subreg.specs.Listed.{Listed, AreSpans}
 use Rattle.subreg.proofs.Elements.{get-push_front, get-push_last}
 use Rattle.subreg.proofs.Spans.{same_span}
 use Rattle.livespan.specs.declared.area.Area.{Area}
 use Rattle.livespan.specs.Live.{AreHulls}
-use Rattle.livespan.specs.Spans.{AreSpansOf, AreSpansBelow, IsAdded, IsSpanBehind}
+use Rattle.livespan.specs.Spans.{AreSpansOf, AreSpansBelow, IsAdded}
 use Rattle.livespan.proofs.Hulls.{same_register}
 use Rattle.livespan.proofs.Valid.{no-span, span-forward, span-named, span-small}
 
@@ -186,13 +185,14 @@ sorted-spans f spans sorted valid are moved rises =
                   ]
             ];
       };
-      exact = λ v from to.
-          (λ listed. (good listed.0 (record { vreg = v; from = from; to = to }) listed.1).1,
-          λ is.
-          let s : Interval = record { vreg = v; from = from; to = to } in
-          let old = are.whole v from to (span-named f v from to valid is) is in
-          let there =
-          Contains-permutation spans sorted s moved
-          (old.0, slice_get_within spans old.0 s old.1, get_or_from_slice_get spans old.0 s s old.1) in
-          (there.0, slice_get-get_or sorted there.0 s there.1 ∙ ap Some there.2));
+      exact = λ v from to. (
+        λ listed. (good listed.0 (record { vreg = v; from = from; to = to }) listed.1).1,
+        λ is.
+            let s : Interval = record { vreg = v; from = from; to = to } in
+            let old = are.whole v from to (span-named f v from to valid is) is in
+            let there =
+            Contains-permutation spans sorted s moved
+            (old.0, slice_get_within spans old.0 s old.1, get_or_from_slice_get spans old.0 s s old.1) in
+            (there.0, slice_get-get_or sorted there.0 s there.1 ∙ ap Some there.2),
+      );
     }

@@ -1,14 +1,14 @@
 -- Marks on the operations of a loop.
-use Rattle.std.proofs.Common.{◌≡◌, ◌≢◌, ℕ, zero, suc, ◌+◌, ◌-◌, ◌<◌, ◌≤◌, ◌⊎◌, inl, inr, Bool, true, false, List, [], ◌∷◌, length, get_or, refl}
-use Rattle.std.proofs.Common.{sym, ap, ◌∙◌, subst, arith, Option, Some, None, set, replicate}
-use Rattle.std.specs.Prelude.{slice_get, slice_set, slice_index_or, IsTrue}
+use Rattle.std.proofs.Common.{◌≡◌, ◌≢◌, ℕ, zero, suc, ◌+◌, ◌-◌, ◌<◌, ◌≤◌, inl, inr, Bool, true, false, List, [], ◌∷◌, length, get_or, refl}
+use Rattle.std.proofs.Common.{sym, ap, ◌∙◌, subst, arith, Option, Some, replicate}
+use Rattle.std.specs.Prelude.{slice_get, slice_set, IsTrue}
 use Rattle.std.specs.Bool.{OnFalse}
 use Rattle.std.proofs.lemmas.Bool.{cases_eq, true≢false, OnFalse_from, OnFalse_at}
-use Rattle.std.proofs.lemmas.List.{get_or-set_other, get_or-set_same}
+use Rattle.std.proofs.lemmas.List.{get_or-set_other}
 use Rattle.std.proofs.lemmas.Option.{same_Some}
 use Rattle.midcode.specs.declared.register.VReg.{VReg}
 use Rattle.midcode.specs.declared.op.OpKind.{OpKind}
-use Rattle.subreg.specs.Span.{Stands, Within, ReadsAt, WritesAt, Follows, MayBeRead, here, onwards, is_onward}
+use Rattle.subreg.specs.Span.{Stands, Within, MayBeRead, here, onwards, is_onward}
 use Rattle.livespan.specs.Live.{AreGoals}
 use Rattle.livespan.specs.Marks.{IsMarked, LeadsOn, IsWanted, AreSound, AreClosedFrom, MarksMore, unmarked}
 use Rattle.livespan.proofs.Goes.{follows-cases}

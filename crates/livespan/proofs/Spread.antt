@@ -1,10 +1,10 @@
 -- An allocation for spans in a list is one for the spans themselves.
-use Rattle.std.proofs.Common.{◌≡◌, ℕ, ◌<◌, ◌↔◌, List}
+use Rattle.std.proofs.Common.{ℕ, ◌↔◌, List}
 use Rattle.prunum.specs.declared.width.Width.{Width}
 use Rattle.midcode.specs.declared.register.VReg.{VReg}
 use Rattle.isa.specs.declared.field.Field.{Field}
 use Rattle.subreg.specs.declared.home.Home.{Home}
-use Rattle.subreg.specs.Allocation.{Meet, Fits, Covers, IsTaken, TwentyOthers, IsCrowded, IsAllocation}
+use Rattle.subreg.specs.Allocation.{Meet, Covers, IsTaken, TwentyOthers, IsAllocation}
 
 module _ (H K : VReg → ℕ → ℕ → Type 0) (same : (v : VReg) (from to : ℕ) → H v from to ↔ K v from to) where
   meet-other : (v w : VReg) → Meet K v w → Meet H v w

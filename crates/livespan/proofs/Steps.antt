@@ -1,6 +1,6 @@
 -- Goals, loops and starts, operation by operation.
-use Rattle.std.proofs.Common.{◌≡◌, ℕ, ◌+◌, ◌<◌, ◌≤◌, ◌⊎◌, inl, inr, Bool, true, false, List, [], ◌∷◌, ◌++◌, length, refl, sym, ap, ◌∙◌, subst}
-use Rattle.std.proofs.Common.{arith, Option, Some, None, leb-true, leb-false, le-leb, length-append}
+use Rattle.std.proofs.Common.{◌≡◌, ℕ, ◌+◌, ◌<◌, ◌≤◌, inl, inr, List, [], ◌∷◌, ◌++◌, length, sym, ap, ◌∙◌, subst}
+use Rattle.std.proofs.Common.{arith, Option, Some, None, leb-true, leb-false}
 use Rattle.std.specs.Prelude.{slice_get, nat_le}
 use Rattle.std.proofs.lemmas.Bool.{cases_lt, cases_eq, cases_Bool, cond-true, cond-false}
 use Rattle.std.proofs.lemmas.Option.{same_Some, none-some, slice_get_within}
@@ -10,7 +10,7 @@ use Rattle.midcode.specs.Operation.{label_of, target_of}
 use Rattle.subreg.specs.Span.{Stands}
 use Rattle.subreg.proofs.Elements.{get-push_front, get-push_last}
 use Rattle.livespan.specs.declared.area.Area.{Area}
-use Rattle.livespan.specs.Live.{AreGoals, ArePlaces, GoesBack, AreLoops, IsPlain, AreStarts, goal_at, goal_in, with_loop, start_at}
+use Rattle.livespan.specs.Live.{ArePlaces, GoesBack, AreLoops, IsPlain, goal_at, goal_in, with_loop, start_at}
 use Rattle.livespan.proofs.Goes.{goal-is}
 use Rattle.livespan.proofs.Listing.{push-cases, push-old}
 
@@ -97,8 +97,13 @@ loops-more goals loops i (Some first) at are =
           subst P (sym (cond-false (nat_le first i) new loops is))
           (loops-same goals loops i
           (λ a turn same.
-          omega (arith, leb-false first i is, turn.back, same,
-          same_Some first a.first (same-goal goals i (Some first) a at turn same))) are)
+          omega (
+            arith,
+            leb-false first i is,
+            turn.back,
+            same,
+            same_Some first a.first (same-goal goals i (Some first) a at turn same),
+          )) are)
     ]
 
 pub loops-all : (goals : List (Option ℕ)) (loops : List Area) (i : ℕ) → length goals ≤ i → LoopsBelow goals loops i → AreLoops goals loops

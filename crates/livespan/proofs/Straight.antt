@@ -1,11 +1,11 @@
 -- Registers whose mentions stand in a stretch without labels.
-use Rattle.std.proofs.Common.{◌≡◌, ℕ, ◌<◌, ◌≤◌, List, length, get_or, refl, sym, ap, ◌∙◌, subst, arith, Some}
+use Rattle.std.proofs.Common.{◌≡◌, ℕ, ◌<◌, ◌≤◌, List, length, get_or, sym, ◌∙◌, subst, arith, Some}
 use Rattle.std.specs.Prelude.{Contains}
 use Rattle.std.proofs.lemmas.Option.{same_Some, slice_get-get_or}
 use Rattle.midcode.specs.declared.register.VReg.{VReg}
 use Rattle.midcode.specs.declared.op.OpKind.{OpKind}
 use Rattle.midcode.specs.Operation.{reads, writes}
-use Rattle.subreg.specs.Span.{Stands, ReadsAt, WritesAt}
+use Rattle.subreg.specs.Span.{Stands}
 use Rattle.livespan.specs.declared.area.Area.{Area}
 use Rattle.livespan.specs.Live.{AreStarts, IsStraight}
 

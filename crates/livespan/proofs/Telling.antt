@@ -5,7 +5,7 @@ use Rattle.std.proofs.lemmas.Bool.{true≢false}
 use Rattle.midcode.specs.declared.register.VReg.{VReg}
 use Rattle.midcode.specs.declared.op.OpKind.{OpKind}
 use Rattle.midcode.specs.Function.{Function, kinds}
-use Rattle.subreg.specs.Span.{Within, MentionedAt, MayBeRead, Crosses}
+use Rattle.subreg.specs.Span.{Within, MentionedAt, MayBeRead}
 use Rattle.livespan.specs.declared.area.Area.{Area}
 use Rattle.livespan.specs.Live.{IsHull, IsStraight, IsOver, AreGoals, GoesBack, TellsCrossing}
 use Rattle.livespan.proofs.Crossing.{crosses-around, around-read, straight-crosses, crosses-first, crosses-last, crosses-inside}

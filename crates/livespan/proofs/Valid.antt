@@ -1,5 +1,5 @@
 -- What is known of a valid function's operations.
-use Rattle.std.proofs.Common.{◌≡◌, ◌≢◌, ℕ, zero, suc, ◌+◌, ◌<◌, ◌≤◌, ◌⊎◌, inl, inr, Bool, true, false, List, [], ◌∷◌, length, get_or, refl}
+use Rattle.std.proofs.Common.{◌≡◌, ℕ, zero, suc, ◌+◌, ◌<◌, ◌≤◌, inl, inr, Bool, true, List, [], ◌∷◌, length}
 use Rattle.std.proofs.Common.{sym, ap, ◌∙◌, subst, arith, Option, Some, None, ltb-true}
 use Rattle.std.specs.Prelude.{slice_get, Contains, nat_lt, ◌==◌}
 use Rattle.std.specs.List.{list_all}
@@ -15,9 +15,9 @@ use Rattle.midcode.specs.declared.register.VReg.{VReg}
 use Rattle.midcode.specs.declared.signature.Signature.{Signature}
 use Rattle.midcode.specs.Operation.{reads, writes, target_of, parameters}
 use Rattle.midcode.specs.Function.{Function, IsValidFunction, kinds, fits, has, each_of, same_widths}
-use Rattle.midcode.proofs.Valid.{Parts, parts-of}
-use Rattle.subreg.specs.Span.{Stands, ReadsAt, WritesAt, MentionedAt, Holds, IsSpan, Crosses}
-use Rattle.livespan.specs.Live.{AreNamed, HaveTargets, Mentions}
+use Rattle.midcode.proofs.Valid.{parts-of}
+use Rattle.subreg.specs.Span.{MentionedAt, Holds, IsSpan}
+use Rattle.livespan.specs.Live.{AreNamed, HaveTargets}
 use Rattle.livespan.proofs.Crossing.{mentioned-in}
 
 all-at : {X : Type 0} (p : X → Bool) (xs : List X) (n : ℕ) (x : X) → list_all p xs ≡ true → slice_get xs n ≡ Some x → p x ≡ true

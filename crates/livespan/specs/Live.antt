@@ -1,5 +1,5 @@
 -- What is known of a function's operations on the way to its spans.
-use Rattle.std.specs.Prelude.{◌≡◌, ℕ, ◌+◌, ◌<◌, ◌≤◌, ◌⊎◌, Bool, true, false, List, length, Option, Some, None, slice_get}
+use Rattle.std.specs.Prelude.{◌≡◌, ℕ, ◌<◌, ◌≤◌, ◌⊎◌, Bool, true, false, List, length, Option, Some, None, slice_get}
 use Rattle.std.specs.Prelude.{slice_set, slice_index_or, Contains, nat_le, [], ◌∷◌, ◌++◌, if◌then◌else◌}
 use Rattle.midcode.specs.declared.register.Label.{Label}
 use Rattle.midcode.specs.declared.register.VReg.{VReg}

@@ -1,5 +1,5 @@
 -- Marks on the operations of a loop: at those that are marked a register may be read, in the loop, before it is written.
-use Rattle.std.specs.Prelude.{◌≡◌, ℕ, ◌+◌, ◌-◌, ◌<◌, ◌≤◌, ◌⊎◌, Bool, true, false, List, [], ◌∷◌, length, slice_index_or}
+use Rattle.std.specs.Prelude.{◌≡◌, ℕ, ◌+◌, ◌-◌, ◌<◌, ◌≤◌, ◌⊎◌, Bool, true, false, List, [], ◌∷◌, slice_index_or}
 use Rattle.midcode.specs.declared.register.VReg.{VReg}
 use Rattle.midcode.specs.declared.op.OpKind.{OpKind}
 use Rattle.subreg.specs.Span.{Within, ReadsAt, WritesAt, Follows, MayBeRead}

@@ -1,5 +1,5 @@
 -- The spans of a function in a list.
-use Rattle.std.specs.Prelude.{◌≡◌, ℕ, ◌<◌, ◌≤◌, ◌⊎◌, ◌++◌, ◌∷◌, [], List, Option, None, Some, length, slice_get, ◌↔◌}
+use Rattle.std.specs.Prelude.{◌≡◌, ℕ, ◌<◌, ◌≤◌, ◌++◌, ◌∷◌, [], List, Option, None, Some, length, slice_get, ◌↔◌}
 use Rattle.midcode.specs.declared.register.VReg.{VReg}
 use Rattle.midcode.specs.Function.{Function}
 use Rattle.subreg.specs.declared.home.Interval.{Interval}

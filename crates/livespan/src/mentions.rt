@@ -62,7 +62,11 @@ fn mention_operation(hulls: &mut [Option<Area>], kinds: &[OpKind], place: usize)
 }
 
 /// The hulls of the first registers, the parameters, before any operation.
-fn mention_parameters(alloc: Global, registers: usize, params: u8) -> Result<Vec<Option<Area>>, Memory>
+fn mention_parameters(
+    alloc: Global,
+    registers: usize,
+    params: u8,
+) -> Result<Vec<Option<Area>>, Memory>
     requires { params ≤ registers }
     ensures len { IfOk result (λ hulls. length hulls.items ≡ registers) }
     ensures hulls { IfOk result (λ hulls. (ks : List OpKind) → AreHulls (Known ks params 0) hulls.items) }
@@ -75,7 +79,12 @@ fn mention_parameters(alloc: Global, registers: usize, params: u8) -> Result<Vec
 }
 
 /// The places from the first to the last mention of each register, by its number.
-pub fn mentions(alloc: Global, kinds: &[OpKind], registers: usize, params: u8) -> Result<Vec<Option<Area>>, Memory>
+pub fn mentions(
+    alloc: Global,
+    kinds: &[OpKind],
+    registers: usize,
+    params: u8,
+) -> Result<Vec<Option<Area>>, Memory>
     requires params { params ≤ registers }
     requires named { AreNamed kinds.now registers }
     ensures len { IfOk result (λ hulls. length hulls.items ≡ registers) }

@@ -24,7 +24,13 @@ fn is_marked(turn: Area, marks: &[bool], place: usize) -> bool
 }
 
 /// Whether a place that may follow is marked.
-fn leads_on(kinds: &[OpKind], goals: &[Option<usize>], turn: Area, marks: &[bool], place: usize) -> bool
+fn leads_on(
+    kinds: &[OpKind],
+    goals: &[Option<usize>],
+    turn: Area,
+    marks: &[bool],
+    place: usize,
+) -> bool
     requires goals { AreGoals kinds.now goals.now }
     requires marks { turn.first + length marks.now ≡ turn.last + 1 }
     requires within { place < length kinds.now }
@@ -41,7 +47,14 @@ fn leads_on(kinds: &[OpKind], goals: &[Option<usize>], turn: Area, marks: &[bool
 }
 
 /// Whether the register is read at a place, or not written there and a place that may follow is marked.
-fn is_wanted(kinds: &[OpKind], goals: &[Option<usize>], turn: Area, v: VReg, marks: &[bool], place: usize) -> bool
+fn is_wanted(
+    kinds: &[OpKind],
+    goals: &[Option<usize>],
+    turn: Area,
+    v: VReg,
+    marks: &[bool],
+    place: usize,
+) -> bool
     requires goals { AreGoals kinds.now goals.now }
     requires marks { turn.first + length marks.now ≡ turn.last + 1 }
     requires within { place < length kinds.now }
@@ -58,7 +71,15 @@ fn is_wanted(kinds: &[OpKind], goals: &[Option<usize>], turn: Area, v: VReg, mar
 }
 
 /// Marks a place of the loop if it is wanted. Tells whether a mark was made, now or before.
-fn mark(kinds: &[OpKind], goals: &[Option<usize>], turn: Area, v: VReg, marks: &mut [bool], place: usize, before: bool) -> bool
+fn mark(
+    kinds: &[OpKind],
+    goals: &[Option<usize>],
+    turn: Area,
+    v: VReg,
+    marks: &mut [bool],
+    place: usize,
+    before: bool,
+) -> bool
     requires goals { AreGoals kinds.now goals.now }
     requires marks { turn.first + length marks.old ≡ turn.last + 1 }
     requires last { turn.last < length kinds.now }

@@ -46,7 +46,14 @@ fn is_straight(kinds: &[OpKind], starts: &[usize], v: VReg, hull: Area) -> bool
 }
 
 /// Whether the register may be read in a loop around its mentions before it is written.
-fn is_wanted_around(alloc: Global, f: &MidFn, flow: &Flow, v: VReg, hull: Area, turn: Area) -> Result<bool, Memory>
+fn is_wanted_around(
+    alloc: Global,
+    f: &MidFn,
+    flow: &Flow,
+    v: VReg,
+    hull: Area,
+    turn: Area,
+) -> Result<bool, Memory>
     requires kinds { flow.now.kinds.now ≡ kinds f.now }
     requires goals { AreGoals flow.now.kinds.now flow.now.goals.now }
     requires starts { AreStarts flow.now.kinds.now flow.now.starts.now }
@@ -64,7 +71,14 @@ fn is_wanted_around(alloc: Global, f: &MidFn, flow: &Flow, v: VReg, hull: Area, 
 
 /// Whether the span of a register, first and last mentioned at the ends of `hull`, crosses a loop. Where the loop lies between its
 /// mentions, the answer may be no.
-fn crosses(alloc: Global, f: &MidFn, flow: &Flow, v: VReg, hull: Area, turn: Area) -> Result<bool, Memory>
+fn crosses(
+    alloc: Global,
+    f: &MidFn,
+    flow: &Flow,
+    v: VReg,
+    hull: Area,
+    turn: Area,
+) -> Result<bool, Memory>
     requires kinds { flow.now.kinds.now ≡ kinds f.now }
     requires goals { AreGoals flow.now.kinds.now flow.now.goals.now }
     requires starts { AreStarts flow.now.kinds.now flow.now.starts.now }
@@ -82,7 +96,15 @@ fn crosses(alloc: Global, f: &MidFn, flow: &Flow, v: VReg, hull: Area, turn: Are
 }
 
 /// `area`, extended over a loop if the span of the register crosses it.
-fn extended(alloc: Global, f: &MidFn, flow: &Flow, v: VReg, hull: Area, turn: Area, area: Area) -> Result<Area, Memory>
+fn extended(
+    alloc: Global,
+    f: &MidFn,
+    flow: &Flow,
+    v: VReg,
+    hull: Area,
+    turn: Area,
+    area: Area,
+) -> Result<Area, Memory>
     requires kinds { flow.now.kinds.now ≡ kinds f.now }
     requires goals { AreGoals flow.now.kinds.now flow.now.goals.now }
     requires starts { AreStarts flow.now.kinds.now flow.now.starts.now }
@@ -128,7 +150,14 @@ fn interval(vreg: VReg, area: Area) -> Interval
 }
 
 /// Adds the span of a register that has a hull.
-fn add_span(alloc: Global, f: &MidFn, flow: &Flow, v: VReg, hull: Option<Area>, spans: &mut Vec<Interval>) -> Result<(), Memory>
+fn add_span(
+    alloc: Global,
+    f: &MidFn,
+    flow: &Flow,
+    v: VReg,
+    hull: Option<Area>,
+    spans: &mut Vec<Interval>,
+) -> Result<(), Memory>
     requires valid { IsValidFunction f.now }
     requires kinds { flow.now.kinds.now ≡ kinds f.now }
     requires goals { AreGoals flow.now.kinds.now flow.now.goals.now }
@@ -148,7 +177,12 @@ fn add_span(alloc: Global, f: &MidFn, flow: &Flow, v: VReg, hull: Option<Area>, 
 }
 
 /// The spans of a function's registers in the order of their numbers.
-fn by_number(alloc: Global, f: &MidFn, flow: &Flow, hulls: &[Option<Area>]) -> Result<Vec<Interval>, Memory>
+fn by_number(
+    alloc: Global,
+    f: &MidFn,
+    flow: &Flow,
+    hulls: &[Option<Area>],
+) -> Result<Vec<Interval>, Memory>
     requires valid { IsValidFunction f.now }
     requires kinds { flow.now.kinds.now ≡ kinds f.now }
     requires goals { AreGoals flow.now.kinds.now flow.now.goals.now }
@@ -160,7 +194,14 @@ fn by_number(alloc: Global, f: &MidFn, flow: &Flow, hulls: &[Option<Area>]) -> R
 {
     let mut spans = Vec::new(alloc);
     for number in 0..hulls.len() {
-        add_span(alloc, f, flow, VReg(number as u32), hulls[number], &mut spans)?;
+        add_span(
+            alloc,
+            f,
+            flow,
+            VReg(number as u32),
+            hulls[number],
+            &mut spans,
+        )?;
     }
     Ok(spans)
 }
@@ -180,7 +221,12 @@ fn spans_of(alloc: Global, f: &MidFn, operations: &[OpKind]) -> Result<Vec<Inter
     let goals = goals(alloc, operations, f.labels() as usize)?;
     let loops = loops(alloc, &goals)?;
     let starts = starts(alloc, operations)?;
-    let hulls = mentions(alloc, operations, f.registers().len(), parameter_count(*f.signature()))?;
+    let hulls = mentions(
+        alloc,
+        operations,
+        f.registers().len(),
+        parameter_count(*f.signature()),
+    )?;
     let flow = Flow {
         kinds: operations,
         goals: &goals,

@@ -1,4 +1,4 @@
-use Rattle.std.proofs.Common.{◌≡◌, ◌+◌, ◌<◌, List, [], ◌∷◌, length, refl, sym, ap, ◌∙◌, subst, arith, Option, Some, length-append}
+use Rattle.std.proofs.Common.{◌≡◌, ◌+◌, ◌<◌, List, [], ◌∷◌, length, sym, ap, ◌∙◌, subst, arith, Option, Some, length-append}
 use Rattle.std.specs.Prelude.{slice_get, ℕ}
 use Rattle.midcode.specs.declared.op.OpKind.{OpKind}
 use Rattle.midcode.specs.declared.register.Label.{Label}
@@ -11,8 +11,12 @@ use Rattle.livespan.proofs.flow.goals.Goals as goal
 
 pub goal-requires : goal.goal-requires
 goal-requires c = λ l is.
-    omega (arith, c.in_ok-places.ensures.len, ap length c.deref.ensures.value,
-    c.requires c.loop-place.place c.kind_at.result l c.kind_at.ensures (sym c.target.ensures ∙ is))
+    omega (
+      arith,
+      c.in_ok-places.ensures.len,
+      ap length c.deref.ensures.value,
+      c.requires c.loop-place.place c.kind_at.result l c.kind_at.ensures (sym c.target.ensures ∙ is),
+    )
 
 pub loop-place-preserved : goal.loop-place-preserved
 loop-place-preserved c =

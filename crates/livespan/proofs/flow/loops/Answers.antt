@@ -1,4 +1,4 @@
-use Rattle.std.proofs.Common.{◌≡◌, ◌+◌, List, length, refl, sym, ap, ◌∙◌, subst, arith, None}
+use Rattle.std.proofs.Common.{◌+◌, List, sym, subst, arith, None}
 use Rattle.std.proofs.lemmas.Option.{slice_get-get_or}
 use Rattle.livespan.specs.declared.area.Area.{Area}
 use Rattle.livespan.proofs.Steps.{LoopsBelow, loops-none, loops-more, loops-all}

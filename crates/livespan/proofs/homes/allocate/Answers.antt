@@ -1,9 +1,9 @@
-use Rattle.std.proofs.Common.{◌≡◌, List, sym, subst}
+use Rattle.std.proofs.Common.{List, sym, subst}
 use Rattle.std.proofs.lemmas.Result.{IfOk-weaker}
 use Rattle.prunum.specs.declared.width.Width.{Width}
 use Rattle.subreg.specs.declared.home.Interval.{Interval}
 use Rattle.subreg.specs.Allocation.{IsAllocation}
-use Rattle.subreg.specs.Listed.{Listed, AreSpans}
+use Rattle.subreg.specs.Listed.{Listed}
 use Rattle.subreg.specs.Span.{IsSpan}
 use Rattle.livespan.specs.Spans.{AreSpansOf}
 use Rattle.livespan.proofs.Spread.{allocation-other}

@@ -1,4 +1,4 @@
-use Rattle.std.proofs.Common.{◌≡◌, ℕ, List, length}
+use Rattle.std.proofs.Common.{◌≡◌, List, length}
 use Rattle.midcode.specs.declared.op.OpKind.{OpKind}
 use Rattle.livespan.specs.Live.{AreHulls, Known}
 use Rattle.livespan.proofs.mentions.mention_parameters.Given as goal

@@ -1,4 +1,4 @@
-use Rattle.std.proofs.Common.{◌≡◌, ℕ, ◌+◌, List, length, refl, sym, ap, ◌∙◌, subst, arith, Option, rules}
+use Rattle.std.proofs.Common.{◌≡◌, ℕ, ◌+◌, List, length, sym, ap, ◌∙◌, subst, arith, Option, rules}
 use Rattle.livespan.specs.declared.area.Area.{Area}
 use Rattle.livespan.specs.Live.{AreHulls, AreNamed, Known}
 use Rattle.livespan.proofs.Back.{put-back}

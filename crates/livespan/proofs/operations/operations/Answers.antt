@@ -1,6 +1,6 @@
-use Rattle.std.proofs.Common.{◌≡◌, List, sym, subst}
+use Rattle.std.proofs.Common.{List, sym, subst}
 use Rattle.midcode.specs.declared.op.OpKind.{OpKind}
-use Rattle.livespan.proofs.Walk.{Walk, walk-start, walk-next, walk-end, walk-fewer}
+use Rattle.livespan.proofs.Walk.{Walk, walk-next}
 use Rattle.livespan.proofs.operations.operations.Goals as goal
 
 pub loop-at-preserved : goal.loop-at-preserved

@@ -1,4 +1,4 @@
-use Rattle.std.proofs.Common.{ℕ, ◌-◌, length}
+use Rattle.std.proofs.Common.{◌-◌, length}
 use Rattle.livespan.proofs.Walk.{Walk}
 use Rattle.livespan.proofs.operations.operations.Given as goal
 

@@ -1,4 +1,4 @@
-use Rattle.std.proofs.Common.{◌≡◌, ◌-◌, ◌<◌, refl, sym, ap, ◌∙◌, arith, inl, inr, true, false, length, get_or}
+use Rattle.std.proofs.Common.{◌≡◌, ◌-◌, refl, sym, ◌∙◌, arith, inl, inr, false, get_or}
 use Rattle.std.proofs.lemmas.Bool.{true≢false, OnFalse_from, cases_Bool}
 use Rattle.livespan.specs.Marks.{IsWanted, IsMarked}
 use Rattle.livespan.proofs.Marked.{mark-one, unmarked-none}

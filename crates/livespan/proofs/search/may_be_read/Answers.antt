@@ -1,6 +1,6 @@
-use Rattle.std.proofs.Common.{◌≡◌, ◌+◌, Bool, false, List, length, refl, sym, ap, ◌∙◌, subst, arith, rules}
+use Rattle.std.proofs.Common.{◌≡◌, Bool, false, List, length, sym, ap, ◌∙◌, subst, arith, rules}
 use Rattle.std.proofs.lemmas.Bool.{OnFalse_at}
-use Rattle.livespan.specs.Marks.{AreSound, AreClosedFrom, IsMarked}
+use Rattle.livespan.specs.Marks.{AreSound, IsMarked}
 use Rattle.livespan.proofs.Back.{put-back}
 use Rattle.livespan.proofs.Marked.{closed-read}
 use Rattle.livespan.proofs.search.may_be_read.Goals as goal
@@ -30,6 +30,7 @@ returns-then-not-sweep c =
     let P : List Bool → Type 0 = λ ms. AreSound c.args.kinds.now first last c.args.v ms in
     let sound = c.sweep.ensures.sound (subst P (sym c.deref_mut.ensures.value) c.sweeps.invariant.sound) in
     let closed = OnFalse_at none c.sweep.ensures.closed in
-    let M : List Bool → Type 0 = λ ms. IsMarked first last ms first in
-    (λ e. sound first (subst M now (c.is_marked.ensures.0 e)),
-    λ may. c.is_marked.ensures.1 (subst M (sym now) (closed-read c.args.kinds.now first last c.args.v c.sweep.new.marks closed first may)))
+    let M : List Bool → Type 0 = λ ms. IsMarked first last ms first in (
+      λ e. sound first (subst M now (c.is_marked.ensures.0 e)),
+      λ may. c.is_marked.ensures.1 (subst M (sym now) (closed-read c.args.kinds.now first last c.args.v c.sweep.new.marks closed first may)),
+    )

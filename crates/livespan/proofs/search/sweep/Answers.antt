@@ -1,5 +1,4 @@
-use Rattle.std.proofs.Common.{◌≡◌, ◌-◌, ◌+◌, refl, sym, ap, ◌∙◌, arith, false}
-use Rattle.livespan.specs.Marks.{AreSound, AreClosedFrom, MarksMore}
+use Rattle.std.proofs.Common.{◌-◌, refl, ◌∙◌, arith}
 use Rattle.livespan.proofs.Marked.{more-more, closed-first, closed-step, closed-end}
 use Rattle.livespan.proofs.search.sweep.Goals as goal
 

@@ -1,4 +1,3 @@
-use Rattle.std.proofs.Common.{◌≡◌, refl, sym, ap, ◌∙◌}
 use Rattle.livespan.proofs.Valid.{span-forward, span-small}
 use Rattle.livespan.proofs.spans.add_span.Goals as goal
 

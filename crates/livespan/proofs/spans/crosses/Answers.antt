@@ -1,4 +1,4 @@
-use Rattle.std.proofs.Common.{◌≡◌, sym, ◌∙◌}
+use Rattle.std.proofs.Common.{sym, ◌∙◌}
 use Rattle.std.proofs.lemmas.Bool.{true≢false}
 use Rattle.livespan.proofs.Telling.{first-tells, last-tells}
 use Rattle.livespan.proofs.spans.crosses.Goals as goal

@@ -1,6 +1,5 @@
-use Rattle.std.proofs.Common.{◌≡◌, refl, sym, ap, ◌∙◌, arith, true, false}
+use Rattle.std.proofs.Common.{sym, ◌∙◌}
 use Rattle.std.proofs.lemmas.Bool.{true≢false, OnTrue_from}
-use Rattle.std.proofs.lemmas.Option.{same_Some, slice_get-get_or}
 use Rattle.livespan.specs.Live.{IsStraight}
 use Rattle.livespan.proofs.Straight.{straight-from}
 use Rattle.livespan.proofs.spans.is_straight.Goals as goal

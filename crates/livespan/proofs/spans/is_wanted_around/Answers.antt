@@ -1,4 +1,4 @@
-use Rattle.std.proofs.Common.{◌≡◌, ◌<◌, sym, subst, arith, length}
+use Rattle.std.proofs.Common.{arith}
 use Rattle.std.specs.Prelude.{IsTrue, ◌↔◌}
 use Rattle.std.proofs.lemmas.Bool.{OnTrue_at}
 use Rattle.std.proofs.lemmas.Result.{IfOk-weaker}
@@ -13,15 +13,21 @@ is_straight-requires-clause-forward c = (c.requires.hull.all c.args.hull.first c
 
 pub is_straight-requires-clause-last : goal.is_straight-requires-clause-last
 is_straight-requires-clause-last c =
-    omega (arith, c.requires.last,
-    loop-within c.args.flow.now.kinds.now c.args.flow.now.goals.now c.args.turn c.requires.goals c.requires.turn)
+    omega (
+      arith,
+      c.requires.last,
+      loop-within c.args.flow.now.kinds.now c.args.flow.now.goals.now c.args.turn c.requires.goals c.requires.turn,
+    )
 
 pub returns-then-is_straight : goal.returns-then-is_straight
 returns-then-is_straight c =
     straight-tells c.args.f.now c.args.flow.now.kinds.now c.args.v c.args.hull c.args.turn c.requires.kinds c.requires.hull
     (OnTrue_at c.if-is_straight.true c.is_straight.ensures)
-    (omega (arith, c.requires.last,
-    loop-within c.args.flow.now.kinds.now c.args.flow.now.goals.now c.args.turn c.requires.goals c.requires.turn))
+    (omega (
+      arith,
+      c.requires.last,
+      loop-within c.args.flow.now.kinds.now c.args.flow.now.goals.now c.args.turn c.requires.goals c.requires.turn,
+    ))
     c.requires.first c.requires.last
 
 pub may_be_read-requires-clause-forward : goal.may_be_read-requires-clause-forward

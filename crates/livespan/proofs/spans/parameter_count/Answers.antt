@@ -1,4 +1,4 @@
-use Rattle.std.proofs.Common.{◌≡◌, ◌≤◌, length, sym, rules}
+use Rattle.std.proofs.Common.{◌≤◌, length, sym, rules}
 use Rattle.std.proofs.lemmas.List.{length-take-le}
 use Rattle.livespan.proofs.spans.parameter_count.Goals as goal
 

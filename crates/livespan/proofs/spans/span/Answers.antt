@@ -1,6 +1,5 @@
-use Rattle.std.proofs.Common.{◌≡◌, get_or, arith}
+use Rattle.std.proofs.Common.{get_or, arith}
 use Rattle.std.proofs.lemmas.Option.{slice_get-get_or}
-use Rattle.midcode.specs.declared.op.OpKind.{OpKind}
 use Rattle.livespan.specs.declared.area.Area.{Area}
 use Rattle.livespan.proofs.Extended.{extended-none, extended-more, extended-all-in}
 use Rattle.livespan.proofs.spans.span.Goals as goal

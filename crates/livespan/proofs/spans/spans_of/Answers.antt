@@ -1,4 +1,4 @@
-use Rattle.std.proofs.Common.{◌≡◌, ℕ, List, length, refl, sym, ap, ◌∙◌, subst, arith, Option}
+use Rattle.std.proofs.Common.{◌≡◌, ℕ, List, length, sym, ap, ◌∙◌, subst, arith, Option}
 use Rattle.midcode.specs.declared.signature.Signature.{Signature}
 use Rattle.midcode.specs.Operation.{parameters}
 use Rattle.subreg.specs.Span.{MentionedAt}
@@ -18,8 +18,12 @@ pub mentions-requires-clause-params : goal.mentions-requires-clause-params
 mentions-requires-clause-params c =
     let count : c.parameter_count.result ≡ length (parameters c.args.f.now.signature) =
     c.parameter_count.ensures ∙ ap count_of c.signature.ensures in
-    omega (arith, count, valid-parameters c.args.f.now c.requires.valid,
-    ap length c.registers.ensures)
+    omega (
+      arith,
+      count,
+      valid-parameters c.args.f.now c.requires.valid,
+      ap length c.registers.ensures,
+    )
 
 pub mentions-requires-clause-named : goal.mentions-requires-clause-named
 mentions-requires-clause-named c =
