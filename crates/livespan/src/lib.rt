@@ -11,3 +11,6 @@ mod spans;
 
 pub use homes::allocate;
 pub use spans::intervals;
+
+#[cfg(test)]
+mod tests;
