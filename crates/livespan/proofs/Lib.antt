@@ -1,0 +1,14 @@
+pub mod Back
+pub mod Walk
+pub mod Hulls
+pub mod Found
+pub mod Goes
+pub mod Extended
+pub mod Marked
+pub mod Crossing
+pub mod Valid
+pub mod Listing
+pub mod Spread
+pub mod Steps
+pub mod Straight
+pub mod Telling
