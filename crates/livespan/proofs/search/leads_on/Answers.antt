@@ -23,7 +23,8 @@ returns-then-is_marked c = (
 pub returns-in-None : goal.returns-in-None
 returns-in-None c =
     let within : c.args.place < length c.args.goals.now = omega (arith, c.requires.goals.len, c.requires.within) in
-    let none : IsTrue (is_onward c.kind_at-kind.result) → IsMarked c.args.turn.first c.args.turn.last c.args.marks.now (c.args.place + 1) → ⊥ =
+    let none : IsTrue (is_onward c.kind_at-kind.result) → IsMarked c.args.turn.first c.args.turn.last c.args.marks.now (c.args.place + 1)
+    → ⊥ =
     λ onward marked.
     elim c.else-is_onward.branch [
       | else-is_onward-via-then-is_onward+else-is_marked w ↦
@@ -33,15 +34,18 @@ returns-in-None c =
       λ e. absurd (true≢false (sym e)),
       λ leads.
           let found =
-          leads-goal c.args.kinds.now c.args.goals.now c.args.turn.first c.args.turn.last c.args.marks.now c.args.place c.kind_at-kind.result None
-          c.requires.goals c.kind_at-kind.ensures (slice_get-get_or c.args.goals.now c.args.place None within ∙ ap Some c.in-None.is) none leads in
+          leads-goal c.args.kinds.now c.args.goals.now c.args.turn.first c.args.turn.last c.args.marks.now c.args.place
+          c.kind_at-kind.result None
+          c.requires.goals c.kind_at-kind.ensures (slice_get-get_or c.args.goals.now c.args.place None within ∙ ap Some c.in-None.is) none
+          leads in
           absurd (none-some found.0 found.1),
     )
 
 pub returns-in-Some : goal.returns-in-Some
 returns-in-Some c =
     let within : c.args.place < length c.args.goals.now = omega (arith, c.requires.goals.len, c.requires.within) in
-    let none : IsTrue (is_onward c.kind_at-kind.result) → IsMarked c.args.turn.first c.args.turn.last c.args.marks.now (c.args.place + 1) → ⊥ =
+    let none : IsTrue (is_onward c.kind_at-kind.result) → IsMarked c.args.turn.first c.args.turn.last c.args.marks.now (c.args.place + 1)
+    → ⊥ =
     λ onward marked.
     elim c.else-is_onward.branch [
       | else-is_onward-via-then-is_onward+else-is_marked w ↦
@@ -57,7 +61,8 @@ returns-in-Some c =
       },
       λ leads.
           let found =
-          leads-goal c.args.kinds.now c.args.goals.now c.args.turn.first c.args.turn.last c.args.marks.now c.args.place c.kind_at-kind.result
+          leads-goal c.args.kinds.now c.args.goals.now c.args.turn.first c.args.turn.last c.args.marks.now c.args.place
+          c.kind_at-kind.result
           (Some c.in-Some.goal) c.requires.goals c.kind_at-kind.ensures at none leads in
           let P : ℕ → Type 0 = λ n. IsMarked c.args.turn.first c.args.turn.last c.args.marks.now n in
           c.is_marked-in-Some.ensures.1 (subst P (sym (same_Some c.in-Some.goal found.0 found.1)) found.2),

@@ -32,5 +32,6 @@ returns-then-not-sweep c =
     let closed = OnFalse_at none c.sweep.ensures.closed in
     let M : List Bool → Type 0 = λ ms. IsMarked first last ms first in (
       λ e. sound first (subst M now (c.is_marked.ensures.0 e)),
-      λ may. c.is_marked.ensures.1 (subst M (sym now) (closed-read c.args.kinds.now first last c.args.v c.sweep.new.marks closed first may)),
+      λ may. c.is_marked.ensures.1 (subst M (sym now) (closed-read c.args.kinds.now first last c.args.v c.sweep.new.marks closed first
+          may)),
     )

@@ -20,9 +20,11 @@ loop-place-preserved c =
       short = omega arith;
       len = c.mark-changed.ensures.len ∙ i.len;
       sound = λ s. c.mark-changed.ensures.sound (i.sound s);
-      more = more-more c.loop-place.changed c.mark-changed.result c.args.marks.now c.loop-place.marks c.mark-changed.new.marks i.more c.mark-changed.ensures.more;
+      more = more-more c.loop-place.changed c.mark-changed.result c.args.marks.now c.loop-place.marks c.mark-changed.new.marks i.more
+          c.mark-changed.ensures.more;
       closed = closed-step c.args.kinds.now c.args.turn.first c.args.turn.last c.args.v c.loop-place.changed c.mark-changed.result
-          c.loop-place.marks c.mark-changed.new.marks c.loop-place.place (c.loop-place.place - 1) (omega arith) c.mark-changed.ensures.more i.closed
+          c.loop-place.marks c.mark-changed.new.marks c.loop-place.place (c.loop-place.place - 1) (omega arith)
+          c.mark-changed.ensures.more i.closed
           c.mark-changed.ensures.closed;
     }
 

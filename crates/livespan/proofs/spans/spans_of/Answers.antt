@@ -27,7 +27,8 @@ mentions-requires-clause-params c =
 
 pub mentions-requires-clause-named : goal.mentions-requires-clause-named
 mentions-requires-clause-named c =
-    named-in c.args.f.now c.args.operations.now (length c.registers.result.now) c.requires.valid c.requires.operations (ap length c.registers.ensures)
+    named-in c.args.f.now c.args.operations.now (length c.registers.result.now) c.requires.valid c.requires.operations (ap length
+    c.registers.ensures)
 
 pub by_number-requires-clause-hulls : goal.by_number-requires-clause-hulls
 by_number-requires-clause-hulls c =
