@@ -166,6 +166,24 @@ fn check<R: AllocGlobal + Abort>(rt: &R, h: Helper, items: &[Item]) -> Result<()
     Ok(())
 }
 
+/// The next number of a fixed generator.
+fn next(n: u32) -> u32 {
+    n.wrapping_mul(1_664_525).wrapping_add(1_013_904_223)
+}
+
+/// Ten thousand pairs, of which the second has any length.
+fn check_many<R: AllocGlobal + Abort>(rt: &R, h: Helper, items: &[Item]) -> Result<(), Fail> {
+    let mut n = 1;
+    for _ in 0..10_000u32 {
+        let a = next(n);
+        n = next(a);
+        let b = n >> (a / 65_536 % 32);
+        let found = run(rt, items, a, b, cycles(h))?;
+        assert_eq!(rt; found, Some(number(h, a, b)), "{a:x} {b:x}");
+    }
+    Ok(())
+}
+
 #[test]
 fn multiplies(rt: HostRuntime) -> Result<(), Fail> {
     check(&rt, Helper::Mul, mul(rt.alloc())?.items())
@@ -177,4 +195,21 @@ fn divides(rt: HostRuntime) -> Result<(), Fail> {
     check(&rt, Helper::RemU, remu(rt.alloc())?.items())?;
     check(&rt, Helper::DivS, divs(rt.alloc())?.items())?;
     check(&rt, Helper::RemS, rems(rt.alloc())?.items())
+}
+
+#[test]
+fn many_products(rt: HostRuntime) -> Result<(), Fail> {
+    check_many(&rt, Helper::Mul, mul(rt.alloc())?.items())
+}
+
+#[test]
+fn many_quotients(rt: HostRuntime) -> Result<(), Fail> {
+    check_many(&rt, Helper::DivU, divu(rt.alloc())?.items())?;
+    check_many(&rt, Helper::DivS, divs(rt.alloc())?.items())
+}
+
+#[test]
+fn many_remainders(rt: HostRuntime) -> Result<(), Fail> {
+    check_many(&rt, Helper::RemU, remu(rt.alloc())?.items())?;
+    check_many(&rt, Helper::RemS, rems(rt.alloc())?.items())
 }
