@@ -6,6 +6,7 @@ use Rattle.corestep.specs.declared.onward.Turning.{Turning}
 use Rattle.corestep.specs.declared.table.Table.{Table}
 use Rattle.behaviour.specs.Machine.{Reaches}
 use Rattle.behaviour.proofs.MachineLemmas.{reaches-refl, reaches-trans, reaches-step}
+use Rattle.corerun.specs.Code.{code_of_words}
 use Rattle.corerun.specs.Solo.{Alone, alone_step}
 use Rattle.corepath.specs.Flow.{Calls}
 use Rattle.corepath.specs.Loops.{Loop}
@@ -17,9 +18,9 @@ module _ (table : Table) (image : Contents) (region : ℕ) (loops : List Loop) w
   -- the path of a function that made a call, whose callee began at so many cycles
   record OpenPath (o : Open) (f began : ℕ) : Type 0 where
     sum : ℕ
-    path : Path table image region loops o.entry o.word None o.counts sum
+    path : Path table (code_of_words image) region loops o.entry o.word None o.counts sum
     at_is : o.at ≡ o.began + sum
-    calls : Calls image region o.word f
+    calls : Calls (code_of_words image) region o.word f
     began_is : began ≡ o.at + own_cost table calls.inst
 
   abbrev OpenPaths : List Open → ℕ → ℕ → Type 0
@@ -28,7 +29,7 @@ module _ (table : Table) (image : Contents) (region : ℕ) (loops : List Loop) w
 
   record Follows (calls : List Open) (e began : ℕ) (t : Option Turning) (k : Loop → ℕ) (c : ℕ) (now : Alone) : Type 0 where
     sum : ℕ
-    path : Path table image region loops e now.core.pc t k sum
+    path : Path table (code_of_words image) region loops e now.core.pc t k sum
     cycles : c ≡ began + sum
     agrees : Agrees t now
     before : OpenPaths calls e began
@@ -55,7 +56,7 @@ module _ (table : Table) (image : Contents) (region : ℕ) (loops : List Loop) w
       let cost = own_cycles table now.core did.inst did.own in
       record {
         sum = 0;
-        path = subst (λ (w : ℕ). Path table image region loops f w None j 0)
+        path = subst (λ (w : ℕ). Path table (code_of_words image) region loops f w None j 0)
             (sym (call_comes image region now next f did is stays)) (path_begin f j none);
         cycles = omega arith;
         agrees = inr refl;
@@ -77,7 +78,7 @@ module _ (table : Table) (image : Contents) (region : ℕ) (loops : List Loop) w
       record {
         sum = o.sum + (own_cost table o.calls.inst + (h.sum + own_cost table did.inst));
         path = subst
-            (λ (w : ℕ). Path table image region loops caller.entry w None j
+            (λ (w : ℕ). Path table (code_of_words image) region loops caller.entry w None j
             (o.sum + (own_cost table o.calls.inst + (h.sum + own_cost table did.inst)))) (sym to)
             (path_call caller.entry caller.word f now.core.pc caller.counts j k o.sum h.sum o.path o.calls h.path
             (record { inst = did.inst; is = did.is; stays = did.stays; jumps = jumps; noted = noted }) left counts);
@@ -89,13 +90,13 @@ module _ (table : Table) (image : Contents) (region : ℕ) (loops : List Loop) w
 pub along : (table : Table) (image : Contents) (region : ℕ) (loops : List Loop) (from : Alone) (calls : List Open)
     (e began : ℕ) (t : Option Turning) (k : Loop → ℕ) (c : ℕ) (now : Alone)
     → Passing table image region loops from calls e began t k c now
-    → (s : ℕ) × Path table image region loops e now.core.pc t k s × (c ≡ began + s)
+    → (s : ℕ) × Path table (code_of_words image) region loops e now.core.pc t k s × (c ≡ began + s)
 along table image region loops from calls e began t k c now so =
     let h = follows table image region loops from calls e began t k c now so in
     (h.sum, h.path, h.cycles)
 
 pub whole : (table : Table) (image : Contents) (region : ℕ) (loops : List Loop) (from : Alone) (cycles : ℕ)
-    → IsPass table image region loops from cycles → Ends table image region loops from.core.pc cycles
+    → IsPass table image region loops from cycles → Ends table (code_of_words image) region loops from.core.pc cycles
 whole table image region loops from cycles p =
     let h = follows table image region loops from [] from.core.pc 0 p.turning p.counts p.before p.last p.passing in
     record {

@@ -9,7 +9,9 @@ use Rattle.isa.specs.Image.{Contents}
 use Rattle.corestep.specs.declared.onward.Turning.{Turning}
 use Rattle.corestep.specs.declared.table.Table.TheVariants.{One, Two}
 use Rattle.corestep.specs.Step.{inst_at}
-use Rattle.corepath.specs.Flow.{entry_of, Goes}
+use Rattle.corerun.specs.Code.{code_of_words}
+use Rattle.corepath.specs.Certificate.{entry_of}
+use Rattle.corepath.specs.Flow.{Goes}
 use Rattle.corepath.specs.Loops.{Loop, loop_at}
 use Rattle.corepath.specs.Path.{Path, begin, step, call, Ends}
 
@@ -37,7 +39,7 @@ branching_entry : entry_of branching 0 ≡ Some 0
 branching_entry = refl
 
 abbrev Branching : ℕ → ℕ → Type 0
-Branching w s = Path One branching 0 [] 0 w None unturned s
+Branching w s = Path One (code_of_words branching) 0 [] 0 w None unturned s
 
 to_branch : Branching 1 1
 unfolding decoded row_inst single_at branch_at jump_at memory_at access_from
@@ -63,7 +65,7 @@ not_taken =
     step 0 2 3 3 None None unturned unturned 2 to_arm
     (record { inst = at branching 2; is = refl; stays = refl; aims = refl }) refl tt
 
-branching_least : Ends One branching 0 [] 0 3
+branching_least : Ends One (code_of_words branching) 0 [] 0 3
 unfolding decoded row_inst single_at branch_at jump_at memory_at access_from
 branching_least = record {
   word = 3;
@@ -77,7 +79,7 @@ branching_least = record {
   sum_is = refl;
 }
 
-branching_most : Ends One branching 0 [] 0 4
+branching_most : Ends One (code_of_words branching) 0 [] 0 4
 unfolding decoded row_inst single_at branch_at jump_at memory_at access_from
 branching_most = record {
   word = 3;
@@ -98,7 +100,7 @@ loading =
     image_of (0x91001862 ∷ 0x2A000000 ∷ [])
     (record { word = 0; kind = Enter; value = 5 } ∷ record { word = 0; kind = Leave; value = 5 } ∷ [])
 
-loaded_one : Ends One loading 5 [] 0 3
+loaded_one : Ends One (code_of_words loading) 5 [] 0 3
 unfolding decoded row_inst single_at branch_at jump_at memory_at access_from
 loaded_one = record {
   word = 0;
@@ -112,7 +114,7 @@ loaded_one = record {
   sum_is = refl;
 }
 
-loaded_two : Ends Two loading 5 [] 0 4
+loaded_two : Ends Two (code_of_words loading) 5 [] 0 4
 unfolding decoded row_inst single_at branch_at jump_at memory_at access_from
 loaded_two = record {
   word = 0;
@@ -137,9 +139,9 @@ abbrev body : ℕ → Option Turning
 body left = Some (record { first = 1; end = 2; left = left })
 
 abbrev Looping : ℕ → Option Turning → ℕ → Type 0
-Looping w t s = Path Two looping 0 [] 0 w t unturned s
+Looping w t s = Path Two (code_of_words looping) 0 [] 0 w t unturned s
 
-abbrev looping_body : Goes looping 0 1 2
+abbrev looping_body : Goes (code_of_words looping) 0 1 2
 unfolding decoded row_inst single_at branch_at jump_at memory_at access_from
 looping_body = record { inst = at looping 1; is = refl; stays = refl; aims = refl }
 
@@ -172,7 +174,7 @@ turning =
 abbrev turned_loop : Loop
 turned_loop = record { first = 1; last = 2; turns = 3 }
 
-turning_loop : loop_at turning 2 ≡ Some turned_loop
+turning_loop : loop_at (code_of_words turning) 2 ≡ Some turned_loop
 unfolding decoded row_inst single_at branch_at jump_at memory_at access_from
 turning_loop = refl
 
@@ -180,13 +182,13 @@ abbrev so_often : ℕ → Loop → ℕ
 so_often n l = n
 
 abbrev Turned : ℕ → ℕ → ℕ → Type 0
-Turned w n s = Path One turning 0 (turned_loop ∷ []) 0 w None (so_often n) s
+Turned w n s = Path One (code_of_words turning) 0 (turned_loop ∷ []) 0 w None (so_often n) s
 
-abbrev turning_first : Goes turning 0 1 2
+abbrev turning_first : Goes (code_of_words turning) 0 1 2
 unfolding decoded row_inst single_at branch_at jump_at memory_at access_from
 turning_first = record { inst = at turning 1; is = refl; stays = refl; aims = refl }
 
-abbrev turning_back : Goes turning 0 2 1
+abbrev turning_back : Goes (code_of_words turning) 0 2 1
 unfolding decoded row_inst single_at branch_at jump_at memory_at access_from
 turning_back = record { inst = at turning 2; is = refl; stays = refl; aims = inl refl }
 
@@ -230,13 +232,13 @@ calling =
     (record { word = 0; kind = Enter; value = 0 } ∷ record { word = 1; kind = Leave; value = 0 }
     ∷ record { word = 4; kind = Return; value = 0 } ∷ [])
 
-in_function : Path One calling 0 [] 3 4 None unturned 1
+in_function : Path One (code_of_words calling) 0 [] 3 4 None unturned 1
 unfolding decoded row_inst single_at branch_at jump_at memory_at access_from
 in_function =
     step 3 3 4 4 None None unturned unturned 0 (begin 3 unturned tt)
     (record { inst = at calling 3; is = refl; stays = refl; aims = refl }) refl tt
 
-behind_call : Path One calling 0 [] 0 1 None unturned 3
+behind_call : Path One (code_of_words calling) 0 [] 0 1 None unturned 3
 unfolding decoded row_inst single_at branch_at jump_at memory_at access_from
 behind_call =
     call 0 0 3 4 unturned unturned unturned 0 1 (begin 0 unturned tt)

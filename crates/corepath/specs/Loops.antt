@@ -1,15 +1,14 @@
 -- Loops that a note limits: a branch back with Turns is taken one time less than the loop is run.
-use Rattle.std.specs.Prelude.{◌≡◌, ℕ, ◌+◌, ◌<◌, ◌==◌, ◌&&◌, Bool, true, false, nat_le}
+use Rattle.std.specs.Prelude.{◌≡◌, ℕ, ◌+◌, ◌-◌, ◌<◌, ◌==◌, ◌&&◌, Bool, true, false, nat_le}
 use Rattle.std.specs.Prelude.{List, Option, Some, None, option_and_then, option_map}
 use Rattle.std.specs.List.{AllByRecursion}
-use Rattle.isa.specs.declared.control.Jump.{Jump}
-use Rattle.isa.specs.declared.control.Jump.TheVariants as jump
+use Rattle.isa.specs.declared.control.LoopBody.{LoopBody}
 use Rattle.isa.specs.declared.inst.Inst.{Inst}
 use Rattle.isa.specs.declared.inst.Inst.TheVariants as inst
 use Rattle.isa.specs.declared.note.NoteKind.TheVariants.{Turns}
-use Rattle.isa.specs.Image.{Contents}
-use Rattle.isa.specs.Note.{branch_target}
-use Rattle.corestep.specs.Step.{inst_at, notes_at, value_of_kind}
+use Rattle.corestep.specs.Step.{value_of_kind}
+use Rattle.corerun.specs.Code.{Code}
+use Rattle.corepath.specs.Flow.{aim_or, jump_aim}
 
 -- the words from its first to its last, which branches back to the first, and how often it is run
 pub record Loop : Type 0 where
@@ -17,23 +16,26 @@ pub record Loop : Type 0 where
   pub last : ℕ
   pub turns : ℕ
 
--- where a branch, or a jump to a number, goes
-abbrev pub jump_target : Jump → Option ℕ
-jump_target (jump.Word n) = Some n
-jump_target (jump.Field f) = None
-
-abbrev pub branch_aim : ℕ → Inst → Option ℕ
-branch_aim w (inst.Branch condition offset a b) = Some (branch_target w offset)
-branch_aim w (inst.Qba offset) = Some (branch_target w offset)
-branch_aim w (inst.Jmp to) = jump_target to
-branch_aim w _ = None
+-- where a branch at w, or a jump to a number, goes
+abbrev pub branch_aim : Code → ℕ → Inst → Option ℕ
+branch_aim code w (inst.Branch condition offset a b) = Some (aim_or code w w)
+branch_aim code w (inst.Qba offset) = Some (aim_or code w w)
+branch_aim code w (inst.Jmp to) = jump_aim code w to
+branch_aim code w _ = None
 
 -- the loop of a word with a Turns note
-abbrev pub loop_at : Contents → ℕ → Option Loop
-loop_at image w =
+abbrev pub loop_at : Code → ℕ → Option Loop
+loop_at code w =
     option_and_then (λ n. option_map (λ q. record { first = q; last = w; turns = n })
-    (option_and_then (branch_aim w) (inst_at image.words w)))
-    (value_of_kind Turns (notes_at image.notes w))
+    (option_and_then (branch_aim code w) (code.inst w)))
+    (value_of_kind Turns (code.notes w))
+
+-- the place behind the body of a LOOP at w, and the body as a loop
+abbrev pub body_end : Code → ℕ → ℕ
+body_end code w = aim_or code w (w + 1)
+
+abbrev pub body_at : Code → ℕ → LoopBody → Loop
+body_at code w body = record { first = w + 1; last = body_end code w - 1; turns = body.count }
 
 abbrev pub holds : Loop → ℕ → Bool
 holds l w = nat_le l.first w && nat_le w l.last

@@ -17,6 +17,7 @@ use Rattle.corestep.specs.Core.{State}
 use Rattle.corestep.specs.Cost.{cost}
 use Rattle.corestep.specs.Memory.{address_of, class_of}
 use Rattle.corestep.specs.Step.{inst_at}
+use Rattle.corerun.specs.Code.{code_of_words}
 use Rattle.corerun.specs.Solo.{Alone, alone_step}
 use Rattle.corepath.specs.Flow.{called, has_note, leaves}
 use Rattle.corepath.specs.Loops.{Loop, Counts, NoneTurned, AllLeft}
@@ -42,7 +43,7 @@ address s _ = 0
 pub record Does (image : Contents) (region : ℕ) (now next : Alone) : Type 0 where
   pub inst : Inst
   pub is : inst_at image.words now.core.pc ≡ Some inst
-  pub stays : leaves image region now.core.pc ≡ false
+  pub stays : leaves (code_of_words image) region now.core.pc ≡ false
   pub own : is_access inst ≡ true → class_of (address now.core inst) ≡ Own
   pub done : alone_step image now ≡ Done tt next
   pub going : next.stands ≡ Going
@@ -88,12 +89,12 @@ pub data Passing (table : Table) (image : Contents) (region : ℕ) (loops : List
       → Passing table image region loops from calls e began after j (c + cycles_of table now.core did.inst) next
   call : (calls : List Open) (e began c f : ℕ) (k j : Loop → ℕ) (now next : Alone)
       → Passing table image region loops from calls e began None k c now → (did : Does image region now next)
-      → called did.inst ≡ Some f → Stays now next → NoneTurned loops j
+      → called (code_of_words image) now.core.pc did.inst ≡ Some f → Stays now next → NoneTurned loops j
       → Passing table image region loops from (record { entry = e; word = now.core.pc; counts = k; began = began; at = c } ∷ calls) f
       (c + cycles_of table now.core did.inst) None j (c + cycles_of table now.core did.inst) next
   return : (calls : List Open) (caller : Open) (f began c : ℕ) (k j : Loop → ℕ) (now next : Alone)
       → Passing table image region loops from (caller ∷ calls) f began None k c now → (did : Does image region now next)
-      → is_jump_to_field did.inst ≡ true → has_note image Return now.core.pc ≡ true → next.core.pc ≡ caller.word + 1
+      → is_jump_to_field did.inst ≡ true → has_note (code_of_words image) Return now.core.pc ≡ true → next.core.pc ≡ caller.word + 1
       → Stays now next → AllLeft loops now.core.pc k → Counts loops caller.word (caller.word + 1) caller.counts j
       → Passing table image region loops from calls caller.entry caller.began None j (c + cycles_of table now.core did.inst) next
 
@@ -106,6 +107,6 @@ pub record IsPass (table : Table) (image : Contents) (region : ℕ) (loops : Lis
   pub inst : Inst
   pub passing : Passing table image region loops from [] from.core.pc 0 turning counts before last
   pub is : inst_at image.words last.core.pc ≡ Some inst
-  pub left : leaves image region last.core.pc ≡ true
+  pub left : leaves (code_of_words image) region last.core.pc ≡ true
   pub own : is_access inst ≡ true → class_of (address last.core inst) ≡ Own
   pub cycles_are : cycles ≡ before + cycles_of table last.core inst

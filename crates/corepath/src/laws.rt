@@ -3,6 +3,7 @@ ghost use Rattle.isa.specs.Image.{Contents};
 ghost use Rattle.corestep.specs.declared.onward.Turning.{Turning};
 ghost use Rattle.corestep.specs.declared.table.Table.{Table};
 ghost use Rattle.behaviour.specs.Machine.{Reaches};
+ghost use Rattle.corerun.specs.Code.{code_of_words};
 ghost use Rattle.corerun.specs.Solo.{Alone, alone_step};
 ghost use Rattle.corepath.specs.Loops.{Loop};
 ghost use Rattle.corepath.specs.Path.{Path, Ends};
@@ -20,7 +21,7 @@ pub fn pass_laws()
     ensures along { (table : Table) (image : Contents) (region : ℕ) (loops : List Loop) (from : Alone) (calls : List Open)
         (e began : ℕ) (t : Option Turning) (k : Loop → ℕ) (c : ℕ) (now : Alone)
         → Passing table image region loops from calls e began t k c now
-        → (s : ℕ) × Path table image region loops e now.core.pc t k s × (c ≡ began + s) }
+        → (s : ℕ) × Path table (code_of_words image) region loops e now.core.pc t k s × (c ≡ began + s) }
     ensures whole { (table : Table) (image : Contents) (region : ℕ) (loops : List Loop) (from : Alone) (cycles : ℕ)
-        → IsPass table image region loops from cycles → Ends table image region loops from.core.pc cycles }
+        → IsPass table image region loops from cycles → Ends table (code_of_words image) region loops from.core.pc cycles }
 {}

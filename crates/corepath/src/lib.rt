@@ -1,4 +1,4 @@
-//! The paths of a region of an image, their sums, and what a certificate of them says.
+//! The paths of a region of a code, their sums, and what a certificate of them says where the code is the words of an image.
 #![tactic(auto)]
 
 mod laws;
