@@ -1,7 +1,7 @@
 //! What a word is given, and what it gives.
 
 ghost use Rattle.std.specs.Prelude.{◌≡◌, ◌≤◌, ◌<◌, ◌++◌, ◌∷◌, [], ℕ, List, length, take, ◌↔◌, IsTrue};
-ghost use Rattle.corestep.specs.declared.out.Stop.TheVariants.{Going, Stuck};
+ghost use Rattle.corestep.specs.declared.out.Stop.TheVariants.{Going};
 
 use prutrace::Event;
 use std::marker::Model;
@@ -80,6 +80,12 @@ impl Events {
         }
     }
 
+    pub fn clear(&mut self)
+        ensures { self.new ≡ [] }
+    {
+        self.count = 0;
+    }
+
     pub fn push(&mut self, event: Event)
         requires { length self.old < 40 }
         ensures { self.new ≡ self.old ++ event ∷ [] }
@@ -120,6 +126,12 @@ impl Stored {
         }
     }
 
+    pub fn clear(&mut self)
+        ensures { self.new ≡ [] }
+    {
+        self.count = 0;
+    }
+
     pub fn set(&mut self, bytes: &[u8])
         requires { length bytes.now ≤ 124 }
         ensures { self.new ≡ bytes.now }
@@ -136,7 +148,7 @@ impl Stored {
 }
 
 /// What a word gives: its events in their order, and how the core stands after it. Of a store that isn't private also its address and
-/// bytes; of every other word these are 0 and none.
+/// bytes; of every other word these are 0 and none. One value serves for many words: each writes it anew, whatever it held.
 #[derive(Debug, Drop)]
 pub struct StepOut {
     pub events: Events,
@@ -146,7 +158,8 @@ pub struct StepOut {
 }
 
 impl StepOut {
-    pub(crate) fn new() -> StepOut
+    /// Without any event.
+    pub fn new() -> StepOut
         ensures { result ≡ record { events = []; at = 0; stored = []; stop = Going } }
     {
         StepOut {
@@ -157,14 +170,13 @@ impl StepOut {
         }
     }
 
-    pub(crate) fn stuck() -> StepOut
-        ensures { result ≡ record { events = []; at = 0; stored = []; stop = Stuck } }
+    /// As new, but for how the core stands.
+    pub(crate) fn clear(&mut self, stop: Stop)
+        ensures { self.new ≡ record { events = []; at = 0; stored = []; stop = stop } }
     {
-        StepOut {
-            events: Events::new(),
-            at: 0,
-            stored: Stored::new(),
-            stop: Stop::Stuck,
-        }
+        self.events.clear();
+        self.at = 0;
+        self.stored.clear();
+        self.stop = stop;
     }
 }

@@ -1,11 +1,10 @@
 //! A core between two words.
 
-ghost use Rattle.std.specs.Prelude.{◌≡◌, ◌<◌, ◌^◌, ◌%◌, ◌+◌, IfOk, IfSome, slice_index, slice_set, length};
+ghost use Rattle.std.specs.Prelude.{◌≡◌, ◌<◌, ◌^◌, ◌%◌, ◌+◌, IfOk, IfSome, Some, slice_index, slice_set, length};
 ghost use Rattle.corestep.specs.Core.{at_start, zeros};
 ghost use Rattle.corestep.specs.Fields.{register, with_bytes};
 ghost use Rattle.corestep.specs.Memory.{private_bytes};
-ghost use Rattle.corestep.specs.Step.{inst_at, need_of, notes_at, after_effect};
-ghost use Rattle.corestep.specs.Given.{effect_of};
+ghost use Rattle.corestep.specs.Step.{inst_at, need_of, stepped};
 ghost use Rattle.corestep.specs.Pieces.{bank_number};
 ghost use Rattle.corestep.specs.declared.out.Need.TheVariants as Need;
 
@@ -14,7 +13,7 @@ use crate::effect::act;
 use crate::fields::{self, address};
 use crate::marks::{notes_of, push_before, push_behind};
 use crate::onward::{Turning, goes_on, stop_of};
-use crate::out::{Input, Need, StepOut};
+use crate::out::{Input, Need, StepOut, Stop};
 use crate::pieces::bank_number;
 use isa::{Image, Inst, Transfer, decode};
 use prunum::Memory;
@@ -124,32 +123,24 @@ impl Core {
         }
     }
 
-    /// Runs the instruction at the counter.
-    pub fn done(&mut self, image: &Image, i: &Inst, input: &Input) -> StepOut
-        requires { self.old.pc < 2048 }
-        ensures core { self.new ≡ (after_effect (notes_at image.now.notes self.old.pc) self.old i.now
-            (effect_of (self.old.pc + 1) self.old.registers self.old.ram input.now i.now)).core }
-        ensures out { result ≡ (after_effect (notes_at image.now.notes self.old.pc) self.old i.now
-            (effect_of (self.old.pc + 1) self.old.registers self.old.ram input.now i.now)).out }
+    /// Runs the instruction that is at the counter, as `step` does.
+    #[tactic(auto, unfolding(crate::specs::Step::istep))]
+    pub fn step_of(&mut self, image: &Image, i: &Inst, input: &Input, out: &mut StepOut)
+        requires at { inst_at image.now.words self.old.pc ≡ Some i.now }
+        requires within { self.old.pc < 2048 }
+        ensures core { self.new ≡ (stepped image.now self.old input.now).core }
+        ensures out { out.new ≡ (stepped image.now self.old input.now).out }
     {
         let here = notes_of(image.notes(), self.pc);
-        let mut out = StepOut::new();
+        out.clear(Stop::Going);
         push_before(&mut out.events, here);
         let behind = u32::from(self.pc) + 1;
-        let goes = act(
-            &mut self.registers,
-            &mut self.ram,
-            behind,
-            i,
-            input,
-            &mut out,
-        );
+        let goes = act(&mut self.registers, &mut self.ram, behind, i, input, out);
         push_behind(&mut out.events, here);
         out.stop = stop_of(goes);
         let on = goes_on(self.pc, self.turning, i, goes);
         self.pc = on.pc;
         self.turning = on.turning;
-        out
     }
 }
 

@@ -87,9 +87,9 @@ fn run<R: AllocGlobal + Abort>(
     let image = Image::new(words, 0x10, init, 0, notes);
     let mut core = Core::new(alloc, &image)?;
     let input = input();
-    let mut out = step(&mut core, &image, &input);
-    for _ in 1..count {
-        out = step(&mut core, &image, &input);
+    let mut out = StepOut::new();
+    for _ in 0..count {
+        step(&mut core, &image, &input, &mut out);
     }
     Ok((core, out))
 }

@@ -3,7 +3,7 @@
 ghost use Rattle.std.specs.Prelude.{◌≡◌};
 ghost use Rattle.corestep.specs.Step.{needed, stepped};
 
-use crate::out::{Input, Need, StepOut};
+use crate::out::{Input, Need, StepOut, Stop};
 use crate::state::Core;
 use isa::Image;
 
@@ -20,12 +20,12 @@ pub fn need(core: &Core, image: &Image) -> Need
 /// Runs the word at the core's counter. Of the input it reads R31, the bytes of a load that isn't private, and the registers of an XIN.
 /// What a store that isn't private writes below 0x1e00 is in the core already.
 #[tactic(auto, unfolding(crate::specs::Step::istep))]
-pub fn step(core: &mut Core, image: &Image, input: &Input) -> StepOut
+pub fn step(core: &mut Core, image: &Image, input: &Input, out: &mut StepOut)
     ensures core { core.new ≡ (stepped image.now core.old input.now).core }
-    ensures out { result ≡ (stepped image.now core.old input.now).out }
+    ensures out { out.new ≡ (stepped image.now core.old input.now).out }
 {
     match core.next(image) {
-        None => StepOut::stuck(),
-        Some(i) => core.done(image, &i, input),
+        None => out.clear(Stop::Stuck),
+        Some(i) => core.step_of(image, &i, input, out),
     }
 }

@@ -1,5 +1,5 @@
 use crate::{Helper, cycles, divs, divu, mul, rems, remu};
-use corestep::{Core, Input, Stop, step};
+use corestep::{Core, Input, StepOut, Stop, step};
 use isa::{
     BranchOffset, Field, Image, Inst, Item, LoopBody, Note, NoteKind, Part, Target, encode,
     is_image,
@@ -132,8 +132,9 @@ fn run<R: AllocGlobal + Abort>(
         bytes: [0; 124],
         pads: [0; 4],
     };
+    let mut out = StepOut::new();
     for _ in 0..count.saturating_add(5) {
-        let out = step(&mut core, &image, &input);
+        step(&mut core, &image, &input, &mut out);
         if out.stop != Stop::Going || !out.events.as_slice().is_empty() {
             return Ok(None);
         }

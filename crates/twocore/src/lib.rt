@@ -6,6 +6,7 @@ mod laws;
 mod load;
 mod machine;
 mod outcome;
+mod passed;
 mod ram;
 mod setup;
 mod side;

@@ -31,52 +31,50 @@ pub fn byte_behind(own: &Side, other: &Side, world: &World, spot: Spot, k: u8) -
 }
 
 #[tactic(auto, unfolding(corestep::specs::Core::zeros))]
-fn no_bytes() -> [u8; 124]
-    ensures { result ≡ word.filled 124 [] }
+fn clear_bytes(bytes: &mut [u8; 124])
+    ensures { bytes.new ≡ word.filled 124 [] }
 {
-    [0; 124]
+    *bytes = [0; 124];
 }
 
 #[tactic(auto, unfolding(corestep::specs::Core::zeros))]
-fn no_pads() -> [u32; 4]
-    ensures { result ≡ word.filled 4 [] }
+fn clear_pads(pads: &mut [u32; 4])
+    ensures { pads.new ≡ word.filled 4 [] }
 {
-    [0; 4]
+    *pads = [0; 4];
 }
 
 /// Bytes of memories.
-fn memory_bytes(own: &Side, other: &Side, world: &World, spot: Spot, len: u8) -> [u8; 124]
+fn memory_bytes(own: &Side, other: &Side, world: &World, spot: Spot, len: u8, bytes: &mut [u8; 124])
     requires { len ≤ 124 }
-    ensures { result ≡ word.filled 124
+    ensures { bytes.new ≡ word.filled 124
         (map (spec.byte_behind (record { own = own.now; other = other.now; world = world.now }) spot) (range_with_len 0 len)) }
 {
-    let mut bytes = no_bytes();
+    clear_bytes(bytes);
     for k in 0..len {
         bytes[usize::from(k)] = byte_behind(own, other, world, spot, k);
     }
-    bytes
 }
 
 /// Bytes of the interrupt controller: only pieces of four count.
-fn controller_bytes(intc: &Intc, at: u16, len: u8) -> [u8; 124]
+fn controller_bytes(intc: &Intc, at: u16, len: u8, bytes: &mut [u8; 124])
     requires { len ≤ 124 }
-    ensures { result ≡ word.filled 124 (spec.controller_bytes intc.now at len) }
+    ensures { bytes.new ≡ word.filled 124 (spec.controller_bytes intc.now at len) }
 {
-    let mut bytes = no_bytes();
+    clear_bytes(bytes);
     for k in 0..len / 4 {
         let value = intc.read(u32::from(at) + 4 * u32::from(k), Width::B4);
-        write(&mut bytes, 4 * usize::from(k), &value.to_le_bytes());
+        write(bytes, 4 * usize::from(k), &value.to_le_bytes());
     }
-    bytes
 }
 
-fn bytes_in(own: &Side, other: &Side, world: &World, spot: Spot, len: u8) -> [u8; 124]
+fn bytes_in(own: &Side, other: &Side, world: &World, spot: Spot, len: u8, bytes: &mut [u8; 124])
     requires { len ≤ 124 }
-    ensures { result ≡ word.filled 124 (spec.bytes_in (record { own = own.now; other = other.now; world = world.now }) spot len) }
+    ensures { bytes.new ≡ word.filled 124 (spec.bytes_in (record { own = own.now; other = other.now; world = world.now }) spot len) }
 {
     match spot {
-        Spot::Controller(at) => controller_bytes(&world.intc, at, len),
-        _ => memory_bytes(own, other, world, spot, len),
+        Spot::Controller(at) => controller_bytes(&world.intc, at, len, bytes),
+        _ => memory_bytes(own, other, world, spot, len, bytes),
     }
 }
 
@@ -101,24 +99,24 @@ pub fn access_at(core: &Core, i: &Inst) -> u32
     }
 }
 
-fn load(own: &Side, other: &Side, world: &World, addr: u32, access: &Access) -> [u8; 124]
+fn load(own: &Side, other: &Side, world: &World, addr: u32, access: &Access, bytes: &mut [u8; 124])
     requires { addr ≡ word.access_at own.now.core (Inst.Load access.now) }
-    ensures { result ≡ word.filled 124
+    ensures { bytes.new ≡ word.filled 124
         (word.bytes_for (record { own = own.now; other = other.now; world = world.now }) (Inst.Load access.now)) }
 {
     if u64::from(addr) + u64::from(access.len) <= 0x1e00 {
-        no_bytes()
+        clear_bytes(bytes);
     } else {
-        bytes_in(own, other, world, Spot::of(addr), access.len)
+        bytes_in(own, other, world, Spot::of(addr), access.len, bytes);
     }
 }
 
-fn bytes_for(own: &Side, other: &Side, world: &World, i: &Inst) -> [u8; 124]
-    ensures { result ≡ word.filled 124 (word.bytes_for (record { own = own.now; other = other.now; world = world.now }) i.now) }
+fn bytes_for(own: &Side, other: &Side, world: &World, i: &Inst, bytes: &mut [u8; 124])
+    ensures { bytes.new ≡ word.filled 124 (word.bytes_for (record { own = own.now; other = other.now; world = world.now }) i.now) }
 {
     match i {
-        Inst::Load { access } => load(own, other, world, access_at(&own.core, i), access),
-        _ => no_bytes(),
+        Inst::Load { access } => load(own, other, world, access_at(&own.core, i), access, bytes),
+        _ => clear_bytes(bytes),
     }
 }
 
@@ -135,23 +133,22 @@ pub fn bank_number(bank: Bank) -> u8
 }
 
 /// Registers of the scratchpad.
-fn pads_in(pads: &Pads, moved: &Transfer) -> [u32; 4]
-    ensures { result ≡ word.filled 4 (spec.pads_at pads.now (pieces.bank_number moved.now.bank) moved.now.first moved.now.count) }
+fn pads_in(pads: &Pads, moved: &Transfer, values: &mut [u32; 4])
+    ensures { values.new ≡ word.filled 4 (spec.pads_at pads.now (pieces.bank_number moved.now.bank) moved.now.first moved.now.count) }
 {
     let bank = bank_number(moved.bank);
-    let mut values = no_pads();
+    clear_pads(values);
     for k in 0..moved.count {
         values[usize::from(k)] = pads.get(bank, moved.first + k);
     }
-    values
 }
 
-fn pads_for(world: &World, i: &Inst) -> [u32; 4]
-    ensures { (own other : Side) → result ≡ word.filled 4 (word.pads_for (record { own = own; other = other; world = world.now }) i.now) }
+fn pads_for(world: &World, i: &Inst, values: &mut [u32; 4])
+    ensures { (own other : Side) → values.new ≡ word.filled 4 (word.pads_for (record { own = own; other = other; world = world.now }) i.now) }
 {
     match i {
-        Inst::Xin { moved } => pads_in(&world.pads, moved),
-        _ => no_pads(),
+        Inst::Xin { moved } => pads_in(&world.pads, moved, values),
+        _ => clear_pads(values),
     }
 }
 
@@ -163,14 +160,12 @@ fn r31_of(core: u8, world: &World) -> u32
     u32::from(world.pins.input(core)) + world.intc.host_bits() % 4 * (1 << 30)
 }
 
-/// What the word at the core's counter reads, as all stands now.
-pub fn input_for(core: u8, own: &Side, other: &Side, world: &World, i: &Inst) -> Input
+/// Puts down what the word at the core's counter reads, as all stands now.
+pub fn fill_input(core: u8, own: &Side, other: &Side, world: &World, i: &Inst, input: &mut Input)
     requires { core < 2 }
-    ensures { result ≡ word.input_for core (record { own = own.now; other = other.now; world = world.now }) i.now }
+    ensures { input.new ≡ word.input_for core (record { own = own.now; other = other.now; world = world.now }) i.now }
 {
-    Input {
-        r31: r31_of(core, world),
-        bytes: bytes_for(own, other, world, i),
-        pads: pads_for(world, i),
-    }
+    input.r31 = r31_of(core, world);
+    bytes_for(own, other, world, i, &mut input.bytes);
+    pads_for(world, i, &mut input.pads);
 }

@@ -8,6 +8,7 @@ ghost use Rattle.twocore.specs.Views as views;
 use crate::acts::{act_all, acts_at};
 use crate::load::byte_behind;
 use crate::outcome::{Outcome, Trace, View};
+use crate::passed::Passed;
 use crate::setup::Setup;
 use crate::side::Side;
 use crate::spot::Spot;
@@ -41,6 +42,7 @@ pub struct Machine {
     world: World,
     trace0: Vec<Stamped>,
     trace1: Vec<Stamped>,
+    passed: Passed,
 }
 
 impl Model for Machine {
@@ -126,6 +128,7 @@ impl Machine {
             world,
             trace0: Vec::new(alloc),
             trace1: Vec::new(alloc),
+            passed: Passed::new(),
         })
     }
 
@@ -191,6 +194,7 @@ impl Machine {
             &mut self.one,
             &mut self.world,
             &mut self.trace0,
+            &mut self.passed,
         );
         turn(
             &self.setup1,
@@ -199,6 +203,7 @@ impl Machine {
             &mut self.zero,
             &mut self.world,
             &mut self.trace1,
+            &mut self.passed,
         );
         self.done = t + 1;
     }

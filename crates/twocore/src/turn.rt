@@ -2,16 +2,17 @@
 
 ghost use Rattle.std.specs.Prelude.{◌≡◌, ◌+◌, ◌<◌, ◌≤◌, ◌++◌, Some, map, slice_index, length};
 ghost use Rattle.std.specs.Vec.{vec_len, vec_capacity};
-ghost use Rattle.corestep.specs.Step.{inst_at};
+ghost use Rattle.corestep.specs.Step.{inst_at, stepped};
 ghost use Rattle.twocore.specs.Word as spec;
 
-use crate::load::{access_at, input_for};
+use crate::load::{access_at, fill_input};
+use crate::passed::Passed;
 use crate::setup::Setup;
 use crate::side::{Side, Word};
 use crate::spot::Spot;
 use crate::store::{lead_out, move_out, store};
 use crate::world::World;
-use corestep::{Class, Stop, cost, step};
+use corestep::{Class, Stop, cost};
 use isa::Inst;
 use prutrace::{Event, Stamped};
 
@@ -111,43 +112,40 @@ fn show(trace: &mut Vec<Stamped>, first: u32, last: u32, events: &[Event])
     }
 }
 
-/// The word is done.
+/// The word at the core's counter is done.
 fn end_word(
     setup: &Setup,
-    t: u32,
     own: &mut Side,
     other: &mut Side,
     world: &mut World,
-    trace: &mut Vec<Stamped>,
-    word: Word,
+    i: &Inst,
+    passed: &mut Passed,
 )
     requires core { setup.now.core < 2 }
-    requires early { t < 2000000 }
     requires few { own.old.count < 2000000 }
-    requires room { vec_len trace.old + 36 ≤ vec_capacity trace.old }
+    requires at { inst_at setup.now.image.words own.old.core.pc ≡ Some i.now }
+    requires within { own.old.core.pc < 2048 }
     ensures stage { record { own = own.new; other = other.new; world = world.new }
-        ≡ (spec.ended setup.now t (record { own = own.old; other = other.old; world = world.old }) word
-        (inst_at setup.now.image.words own.old.core.pc)).stage }
-    ensures shown { trace.new.items ≡ trace.old.items
-        ++ (spec.ended setup.now t (record { own = own.old; other = other.old; world = world.old }) word
-        (inst_at setup.now.image.words own.old.core.pc)).shown }
-    ensures len { vec_len trace.new ≤ vec_len trace.old + 36 }
-    ensures room { vec_capacity trace.old ≤ vec_capacity trace.new }
+        ≡ spec.world_after setup.now.core (record { own = own.old; other = other.old; world = world.old }) i.now
+        (stepped setup.now.image own.old.core
+        (spec.input_for setup.now.core (record { own = own.old; other = other.old; world = world.old }) i.now)) }
+    ensures out { passed.new.out ≡ (stepped setup.now.image own.old.core
+        (spec.input_for setup.now.core (record { own = own.old; other = other.old; world = world.old }) i.now)).out }
+    ensures few { length passed.new.out.events ≤ 36 }
 {
-    let Some(i) = own.core.next(&setup.image) else {
-        return;
-    };
-    let input = input_for(setup.core, own, other, world, &i);
-    move_out(&mut world.pads, &own.core, &i);
-    let out = step(&mut own.core, &setup.image, &input);
+    fill_input(setup.core, own, other, world, i, &mut passed.input);
+    move_out(&mut world.pads, &own.core, i);
+    own.core
+        .step_of(&setup.image, i, &passed.input, &mut passed.out);
+    let out = &passed.out;
     own.stop = out.stop;
     own.word = None;
     own.count += 1;
     store(own, other, world, Spot::of(out.at), out.stored.as_slice());
     lead_out(setup.core, world, out.events.as_slice());
-    show(trace, word.first, t, out.events.as_slice());
 }
 
+/// A core that is doing a word: in the last cycle of it all happens.
 fn work(
     setup: &Setup,
     t: u32,
@@ -155,6 +153,7 @@ fn work(
     other: &mut Side,
     world: &mut World,
     trace: &mut Vec<Stamped>,
+    passed: &mut Passed,
 )
     requires core { setup.now.core < 2 }
     requires early { t < 2000000 }
@@ -167,11 +166,15 @@ fn work(
     ensures len { vec_len trace.new ≤ vec_len trace.old + 36 }
     ensures room { vec_capacity trace.old ≤ vec_capacity trace.new }
 {
-    if let Some(word) = own.word {
-        if word.last == t {
-            end_word(setup, t, own, other, world, trace, word);
-        }
+    let Some(word) = own.word else { return };
+    if word.last != t {
+        return;
     }
+    let Some(i) = own.core.next(&setup.image) else {
+        return;
+    };
+    end_word(setup, own, other, world, &i, passed);
+    show(trace, word.first, t, passed.out.events.as_slice());
 }
 
 /// A core's cycle.
@@ -182,6 +185,7 @@ pub fn turn(
     other: &mut Side,
     world: &mut World,
     trace: &mut Vec<Stamped>,
+    passed: &mut Passed,
 )
     requires core { setup.now.core < 2 }
     requires early { t < 2000000 }
@@ -197,6 +201,6 @@ pub fn turn(
 {
     if own.started && own.stop.is_going() {
         begin(setup, t, own);
-        work(setup, t, own, other, world, trace);
+        work(setup, t, own, other, world, trace, passed);
     }
 }

@@ -7,7 +7,7 @@ use Rattle.twocore.proofs.ControllerLemmas.{words, words_none, word_turn, words_
 use Rattle.twocore.proofs.load.controller_bytes.Goals as goal
 
 pub loop-k-init : goal.loop-k-init
-loop-k-init c = c.no_bytes-bytes.ensures ∙ ap (filled 124) (sym (words_none c.args.intc.now c.args.at))
+loop-k-init c = c.clear_bytes.ensures ∙ ap (filled 124) (sym (words_none c.args.intc.now c.args.at))
 
 pub loop-k-preserved : goal.loop-k-preserved
 loop-k-preserved c =
