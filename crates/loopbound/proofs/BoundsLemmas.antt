@@ -29,7 +29,7 @@ none_turned (l ∷ loops) = (refl, none_turned loops)
 
 module _ (steps : List Step) (loops : List TimedLoop) (label : Labels) (entry w : ℕ) (b : Bounds)
     (ordered : (s : Step) → Contains steps s → s.cost.least ≤ s.cost.most)
-    (nested : Nested (Contains steps) loops entry) (fits : Fits (Contains steps) loops label entry) (is : label w ≡ Some b) where
+    (nested : Nested (Contains steps) (shapes loops) entry) (fits : Fits (Contains steps) loops label entry) (is : label w ≡ Some b) where
   reached : (side : Side) → Tight (Contains steps) loops label entry side
       → Shares (Contains steps) (shapes loops) entry w (at side b)
   reached side tight =
@@ -64,7 +64,7 @@ module _ (steps : List Step) (loops : List TimedLoop) (label : Labels) (entry w 
 
 pub exact_labels : (steps : List Step) (loops : List TimedLoop) (label : Labels) (entry w : ℕ) (b : Bounds)
     → ((s : Step) → Contains steps s → s.cost.least ≤ s.cost.most)
-    → Nested (Contains steps) loops entry → Fits (Contains steps) loops label entry
+    → Nested (Contains steps) (shapes loops) entry → Fits (Contains steps) loops label entry
     → Tight (Contains steps) loops label entry Least → Tight (Contains steps) loops label entry Most
     → label w ≡ Some b → AreBounds (Shares (Contains steps) (shapes loops) entry w) b
 exact_labels steps loops label entry w b ordered nested fits low high is =

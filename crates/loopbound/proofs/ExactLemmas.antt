@@ -15,8 +15,8 @@ use Rattle.loopbound.specs.declared.graph.Side.{Side}
 use Rattle.loopbound.specs.declared.graph.Side.TheVariants.{Most}
 use Rattle.loopbound.specs.Path.{at, Path, begin, step, Exactly}
 use Rattle.loopbound.specs.Table.{shapes, side_of, taken, Allows, CanGo, Labels, Fits, Meets, TurnsNone}
-use Rattle.loopbound.specs.Table.{Reason, at_entry, by_step, TurnReason, Tight, Runs, Running, LiesIn, Apart, InnerFirst, Nested}
-use Rattle.loopbound.proofs.EachLemmas.{each-both, each-map}
+use Rattle.loopbound.specs.Table.{Reason, at_entry, by_step, TurnReason, Tight, Runs, Running, LiesIn, Apart, InnerFirst, Enters, Nested}
+use Rattle.loopbound.proofs.EachLemmas.{each-both, each-map, contained-each, shape-each, Same, only}
 use Rattle.loopbound.proofs.SoundLemmas.{all_counts, none_taken}
 
 -- ---- the counts before a step
@@ -144,7 +144,7 @@ module _ (P : TimedLoop → Type 0) (w : ℕ) (k : Loop → ℕ) where
   }
 
   pick : ((l : TimedLoop) → P l → 0 < k l.shape → holds l.shape w ≡ true) → (loops : List TimedLoop) → AllByRecursion P loops
-      → InnerFirst loops → NoneAt loops ⊎ Picked loops
+      → InnerFirst (shapes loops) → NoneAt loops ⊎ Picked loops
   pick inside [] known nest = inl tt
   pick inside (l ∷ loops) known nest = by (pick inside loops known.1 nest.1) (split l.shape.first w (k l.shape))
     where
@@ -161,7 +161,8 @@ module _ (P : TimedLoop → Type 0) (w : ℕ) (k : Loop → ℕ) where
         more = it.1;
         innermost = (
           λ _ _ _. (omega arith, omega arith),
-          each-map (λ o. Apart l.shape o.shape) (HoldsIt l.shape) (within_outer l (inside l known.0 it.1)) loops nest.0,
+          each-map (λ o. Apart l.shape o.shape) (HoldsIt l.shape) (within_outer l (inside l known.0 it.1)) loops
+              (shape-each (Apart l.shape) loops nest.0),
         );
       })
       by inner (inr none) = rest none inner
@@ -169,7 +170,7 @@ module _ (P : TimedLoop → Type 0) (w : ℕ) (k : Loop → ℕ) where
 -- ---- one step back
 
 module _ (Has : Step → Type 0) (loops : List TimedLoop) (label : Labels) (entry : ℕ) (side : Side)
-    (nested : Nested Has loops entry) (fits : Fits Has loops label entry) (tight : Tight Has loops label entry side) where
+    (nested : Nested Has (shapes loops) entry) (fits : Fits Has loops label entry) (tight : Tight Has loops label entry side) where
   abbrev Reached : ℕ → (Loop → ℕ) → Type 0
   Reached w k = Path (Exactly side) Has (shapes loops) entry w k (side_of side (label w) + taken side k loops)
 
@@ -206,8 +207,8 @@ module _ (Has : Step → Type 0) (loops : List TimedLoop) (label : Labels) (entr
       → AllByRecursion (Fact s.from s.to k) loops → AllByRecursion (Before s.from s.to k) loops
   facts s k has running can all = go loops running can nested.run (nested.enters s has) all
     where
-      go : (ls : List TimedLoop) → Running ls s.to k → CanGo s.from s.to ls → AllByRecursion (λ l. 0 < l.shape.turns) ls
-          → AllByRecursion (λ l. holds l.shape s.from ≡ false → holds l.shape s.to ≡ true → s.to ≡ l.shape.first) ls
+      go : (ls : List TimedLoop) → Running ls s.to k → CanGo s.from s.to ls → AllByRecursion (λ l. 0 < l.turns) (shapes ls)
+          → AllByRecursion (Enters s.from s.to) (shapes ls)
           → AllByRecursion (Fact s.from s.to k) ls → AllByRecursion (Before s.from s.to k) ls
       go [] running can run enters all = tt
       go (l ∷ ls) running can run enters all = (
@@ -226,9 +227,10 @@ module _ (Has : Step → Type 0) (loops : List TimedLoop) (label : Labels) (entr
 
   -- a loop that begins here has turned
   by_turn : (s : Step) (k : Loop → ℕ) (l : Loop) → Has s → Meets loops label side s → move l s.from s.to ≡ Turn → 0 < k l
+      → AllByRecursion (Same s.from s.to l) (shapes loops)
       → AllByRecursion (λ o. holds o.shape s.to ≡ true → o.shape.first ≡ s.to → 0 < k o.shape → LiesIn l o.shape) loops
       → Running loops s.to k → Below s.to k → Reached s.to k
-  by_turn s k l has meets turns more innermost running below =
+  by_turn s k l has meets turns more one innermost running below =
       let t = turned l s.from s.to turns in
       back s k has meets
       (facts s k has running meets.can
@@ -240,7 +242,7 @@ module _ (Has : Step → Type 0) (loops : List TimedLoop) (label : Labels) (entr
         more = λ it. subst (λ (x : Loop). 0 < k x) (one it) more;
         kept = λ it first has_turned. held_in l o.shape s.from (inner it first has_turned) t.from;
       })
-      loops (nested.one_turn s l has turns) innermost))
+      loops (shape-each (Same s.from s.to l) loops one) innermost))
       below
 
   -- none has
@@ -273,7 +275,7 @@ module _ (Has : Step → Type 0) (loops : List TimedLoop) (label : Labels) (entr
       one false l n k turn runs begins unturned = runs
       one true l n k turn runs begins unturned = unturned (sym (begins refl))
 
-      go : (ls : List TimedLoop) → Running ls entry k → AllByRecursion (λ l. holds l.shape entry ≡ true → entry ≡ l.shape.first) ls
+      go : (ls : List TimedLoop) → Running ls entry k → AllByRecursion (λ l. holds l entry ≡ true → entry ≡ l.first) (shapes ls)
           → AllByRecursion (λ l. l.shape.first ≡ entry → k l.shape ≡ 0) ls → NoneTurned (shapes ls) k
       go [] running begins zeros = tt
       go (l ∷ ls) running begins zeros = (
@@ -284,6 +286,18 @@ module _ (Has : Step → Type 0) (loops : List TimedLoop) (label : Labels) (entr
   record Known (w : ℕ) (k : Loop → ℕ) (l : TimedLoop) : Type 0 where
     runs : Runs (holds l.shape w) l.shape.turns l.turn (k l.shape)
     reason : IsSome l.turn → TurnReason Has loops label side l.shape
+    one : (s : Step) → Has s → move l.shape s.from s.to ≡ Turn → AllByRecursion (Same s.from s.to l.shape) (shapes loops)
+
+  abbrev One : Loop → Type 0
+  One l = (s : Step) → Has s → move l s.from s.to ≡ Turn → AllByRecursion (Same s.from s.to l) (shapes loops)
+
+  ones : AllByRecursion (λ l. One l.shape) loops
+  ones =
+      shape-each One loops
+      (contained-each One (shapes loops)
+      (λ l has s step turns.
+      contained-each (Same s.from s.to l) (shapes loops)
+      (λ m has_m turns_m. only s.from s.to (shapes loops) (nested.one_turn s step) l m has has_m turns turns_m)))
 
   inside : (b : Bool) (n k : ℕ) (turn : Option Bounds) → Runs b n turn k → 0 < k → (b ≡ true) × IsSome turn
   inside false n k turn runs more = absurd (omega (arith, runs, more))
@@ -301,7 +315,7 @@ module _ (Has : Step → Type 0) (loops : List TimedLoop) (label : Labels) (entr
       (λ (v : ℕ). AllByRecursion (λ o. holds o.shape v ≡ true → o.shape.first ≡ v → 0 < k o.shape → LiesIn l.shape o.shape) loops
       → Running loops v k → Below v k → Reached v k)
       to
-      (by_turn s k l.shape reason.has reason.meets reason.turns p.more)
+      (by_turn s k l.shape reason.has reason.meets reason.turns p.more (p.known.one s reason.has reason.turns))
       p.innermost running below
 
   before_none : (w : ℕ) (k : Loop → ℕ) → Reason Has loops label entry side w
@@ -323,8 +337,11 @@ module _ (Has : Step → Type 0) (loops : List TimedLoop) (label : Labels) (entr
   one_back w k known running below =
       by (pick (Known w k) w k (λ l kn more. (inside (holds l.shape w) l.shape.turns (k l.shape) l.turn kn.runs more).0) loops
       (each-both (λ l. Runs (holds l.shape w) l.shape.turns l.turn (k l.shape))
-      (λ l. IsSome l.turn → TurnReason Has loops label side l.shape) (Known w k)
-      (λ l runs reason. record { runs = runs; reason = reason }) loops running tight.turns)
+      (λ l. (IsSome l.turn → TurnReason Has loops label side l.shape) × One l.shape) (Known w k)
+      (λ l runs rest. record { runs = runs; reason = rest.0; one = rest.1 }) loops running
+      (each-both (λ l. IsSome l.turn → TurnReason Has loops label side l.shape) (λ l. One l.shape)
+      (λ l. (IsSome l.turn → TurnReason Has loops label side l.shape) × One l.shape)
+      (λ l reason one. (reason, one)) loops tight.turns ones))
       nested.inner_first)
     where
       by : NoneAt (Known w k) w k loops ⊎ Picked (Known w k) w k loops → Reached w k
@@ -337,7 +354,7 @@ module _ (Has : Step → Type 0) (loops : List TimedLoop) (label : Labels) (entr
       one_back w k known running (λ v j less known running. reached m v j (omega (arith, less, low)) known running)
 
 pub exactness : (steps : List Step) (loops : List TimedLoop) (label : Labels) (entry : ℕ) (side : Side) (w : ℕ) (k : Loop → ℕ)
-    → Nested (Contains steps) loops entry → Fits (Contains steps) loops label entry → Tight (Contains steps) loops label entry side
+    → Nested (Contains steps) (shapes loops) entry → Fits (Contains steps) loops label entry → Tight (Contains steps) loops label entry side
     → IsSome (label w) → Running loops w k
     → Path (Exactly side) (Contains steps) (shapes loops) entry w k (side_of side (label w) + taken side k loops)
 exactness steps loops label entry side w k nested fits tight known running =

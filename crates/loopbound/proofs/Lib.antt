@@ -3,3 +3,9 @@ pub mod SoundLemmas
 pub mod ExactLemmas
 pub mod TightLemmas
 pub mod BoundsLemmas
+pub mod Made
+pub mod JoinLemmas
+pub mod WordLemmas
+pub mod TurnLemmas
+pub mod OrderLemmas
+pub mod PassLemmas

@@ -1,3 +1,5 @@
 pub mod Loops
 pub mod Path
 pub mod Table
+pub mod Order
+pub mod Joining

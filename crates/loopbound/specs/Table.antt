@@ -150,20 +150,29 @@ abbrev pub Apart : Loop → Loop → Type 0
 Apart a b = LiesIn a b ⊎ ((a.last < b.first) ⊎ (b.last < a.first))
 
 -- inner loops stand before outer ones
-abbrev pub InnerFirst : List TimedLoop → Type 0
+abbrev pub InnerFirst : List Loop → Type 0
 InnerFirst [] = Unit {0}
-InnerFirst (l ∷ loops) = AllByRecursion (λ other. Apart l.shape other.shape) loops × InnerFirst loops
+InnerFirst (l ∷ loops) = AllByRecursion (Apart l) loops × InnerFirst loops
+
+abbrev pub NoTurn : ℕ → ℕ → Loop → Type 0
+NoTurn w v l = move l w v ≡ Turn → ⊥
+
+-- a step from w to v turns one loop at most
+abbrev pub AtMostOne : ℕ → ℕ → List Loop → Type 0
+AtMostOne w v [] = Unit {0}
+AtMostOne w v (l ∷ loops) = (move l w v ≡ Turn → AllByRecursion (NoTurn w v) loops) × AtMostOne w v loops
+
+abbrev pub Enters : ℕ → ℕ → Loop → Type 0
+Enters w v l = holds l w ≡ false → holds l v ≡ true → v ≡ l.first
 
 -- Each loop is run once or more and entered at its first word, inner loops stand before outer ones, a step turns at most one loop, and
 -- takes some time.
-pub record Nested (Has : Step → Type 0) (loops : List TimedLoop) (entry : ℕ) : Type 0 where
-  pub run : AllByRecursion (λ l. 0 < l.shape.turns) loops
+pub record Nested (Has : Step → Type 0) (loops : List Loop) (entry : ℕ) : Type 0 where
+  pub run : AllByRecursion (λ l. 0 < l.turns) loops
   pub inner_first : InnerFirst loops
-  pub begins : AllByRecursion (λ l. holds l.shape entry ≡ true → entry ≡ l.shape.first) loops
-  pub enters : (s : Step) → Has s
-      → AllByRecursion (λ l. holds l.shape s.from ≡ false → holds l.shape s.to ≡ true → s.to ≡ l.shape.first) loops
-  pub one_turn : (s : Step) (l : Loop) → Has s → move l s.from s.to ≡ Turn
-      → AllByRecursion (λ other. move other.shape s.from s.to ≡ Turn → l ≡ other.shape) loops
+  pub begins : AllByRecursion (λ l. holds l entry ≡ true → entry ≡ l.first) loops
+  pub enters : (s : Step) → Has s → AllByRecursion (Enters s.from s.to) loops
+  pub one_turn : (s : Step) → Has s → AtMostOne s.from s.to loops
   pub takes_time : (s : Step) → Has s → 0 < s.cost.most
 
 -- ---- for lists

@@ -27,7 +27,7 @@ fn label_at(labels: &[Option<Bounds>], word: usize) -> Option<Bounds>
 }
 
 /// The label that a step comes from, with its cycles and the turns of the loops that it leaves.
-fn sum_before(side: Side, step: &Step, loops: &[TimedLoop], labels: &[Option<Bounds>]) -> u128
+pub fn sum_before(side: Side, step: &Step, loops: &[TimedLoop], labels: &[Option<Bounds>]) -> u128
     ensures { result
         ≡ side_of side (label_in labels.now step.now.from) + at side step.now.cost + gains side step.now.from step.now.to loops.now }
 {
@@ -43,7 +43,7 @@ fn sum_behind(side: Side, step: &Step, loops: &[TimedLoop], labels: &[Option<Bou
     u128::from(side_of(side, label_of(labels, step.to))) + dues(side, step, loops)
 }
 
-fn has_label(labels: &[Option<Bounds>], word: u32) -> bool
+pub fn has_label(labels: &[Option<Bounds>], word: u32) -> bool
     ensures { IsTrue result ↔ IsSome (label_in labels.now word) }
 {
     label_of(labels, word).is_some()
