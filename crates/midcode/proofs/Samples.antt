@@ -8,6 +8,7 @@ use Rattle.prunum.specs.declared.width.Width.TheVariants.{B1, B2, B4}
 use Rattle.prutrace.specs.declared.event.Event.{Event}
 use Rattle.prutrace.specs.declared.event.Event.TheVariants as event
 use Rattle.prutrace.specs.declared.event.Place.TheVariants as place
+use Rattle.midcode.specs.declared.object.FirstPart.{FirstPart}
 use Rattle.midcode.specs.declared.object.FirstPart.TheVariants as first
 use Rattle.midcode.specs.declared.register.VReg.{VReg}
 use Rattle.midcode.specs.declared.register.Label.{Label}
@@ -25,7 +26,7 @@ use Rattle.midcode.specs.declared.op.VolatileBase.TheVariants as volatile
 use Rattle.midcode.specs.declared.op.OpKind.{OpKind}
 use Rattle.midcode.specs.declared.op.OpKind.TheVariants as op
 use Rattle.midcode.specs.Value.{unary_value, binary_value}
-use Rattle.midcode.specs.Function.{Function, fits}
+use Rattle.midcode.specs.Function.{Function, fits, kinds, stands, standing, are_distinct}
 use Rattle.midcode.specs.Stored.{Stored}
 use Rattle.midcode.specs.Program.{Program, is_whole}
 use Rattle.midcode.specs.Machine.{Wild, UnsetRegister, OutsideObjects, Misaligned, OutsideWindows, NotOwn, MoreTurns, FewerTurns, State}
@@ -434,6 +435,39 @@ loops_overlap = refl
 
 turns_forwards : is_valid (op.Branch (v 2) test.Equal 0 (l 0) (Some 2) ∷ op.Label (l 0) ∷ marked []) ≡ false
 turns_forwards = refl
+
+-- ---- jumps, labels, main and objects
+
+jump : runs (op.Jump (l 0) ∷ op.WriteRegister R30 (v 2) ∷ op.Label (l 0) ∷ op.Halt ∷ []) ([]) 9
+    ≡ (Some Ended, event.Halted ∷ [])
+unfolding step
+jump = refl
+
+-- a label that stands already may not follow
+label_twice : stands (kinds (function nothing (op.Label (l 0) ∷ op.Halt ∷ []))) 0 ≡ true
+label_twice = refl
+
+labels_twice : are_distinct (standing (op.Label (l 0) ∷ op.Halt ∷ op.Label (l 0) ∷ op.Halt ∷ [])) ≡ false
+labels_twice = refl
+
+main_with_argument : is_whole (record (program (marked []) (op.Return None ∷ [])) { main = 1 }) ≡ false
+main_with_argument = refl
+
+main_missing : is_whole (record (program (marked []) (op.Return None ∷ [])) { main = 2 }) ≡ false
+main_missing = refl
+
+abbrev with_object : List FirstPart → Bool
+with_object parts =
+    is_whole (record (program (marked []) (op.Return None ∷ [])) { objects = record { bytes = 8; first = parts } ∷ [] })
+
+parts_that_fill : with_object (first.Number B2 1 ∷ first.Zeros 2 ∷ first.Address 0 4 ∷ []) ≡ true
+parts_that_fill = refl
+
+parts_too_long : with_object (first.Number B4 1 ∷ first.Address 0 0 ∷ first.Zeros 1 ∷ []) ≡ false
+parts_too_long = refl
+
+address_of_no_object : with_object (first.Address 1 0 ∷ []) ≡ false
+address_of_no_object = refl
 
 abbrev fit : OpKind → Bool
 fit k = fits (B1 ∷ B2 ∷ B4 ∷ B4 ∷ []) 3 k

@@ -245,6 +245,31 @@ once-pushed ks k once fresh = ap are_distinct (standing-append ks (k ∷ [])) �
         ap (λ s. are_distinct (standing ks ++ s)) one.2 ∙
         distinct-more (standing ks) one.0.0 once (not-true (stands ks one.0.0) (fresh one.0 one.1))
 
+-- no label that stands in a valid function has the number of its labels
+free-among : (rs : List Width) (labels : ℕ) (ks : List OpKind) → list_all (fits rs labels) ks ≡ true
+    → list_any (λ m. m == labels) (standing ks) ≡ false
+free-among rs labels [] h = refl
+free-among rs labels (k ∷ ks) h =
+    let both = and_parts (fits rs labels k) (list_all (fits rs labels) ks) h in
+    ap (list_any (λ m. m == labels)) (standing-append (k ∷ []) ks) ∙
+    at both.0 (free-among rs labels ks both.1) (standing-one k)
+  where
+    below : fits rs labels k ≡ true → (l : Label) → label_of k ≡ Some l → nat_lt l.0 labels ≡ true
+    below fit l is = ap (each_of (λ l. nat_lt l.0 labels)) (sym is) ∙ (parts-of rs labels k fit).label
+
+    at : fits rs labels k ≡ true → list_any (λ m. m == labels) (standing ks) ≡ false
+        → (standing (k ∷ []) ≡ []) ⊎ ((l : Label) × (label_of k ≡ Some l) × (standing (k ∷ []) ≡ l.0 ∷ []))
+        → list_any (λ m. m == labels) (standing (k ∷ []) ++ standing ks) ≡ false
+    at fit rest (inl none) = ap (λ s. list_any (λ m. m == labels) (s ++ standing ks)) none ∙ rest
+    at fit rest (inr one) =
+        let less = ltb-true one.0.0 labels (below fit one.0 one.1) in
+        let apart : (one.0.0 == labels) ≡ false = ne_eqb one.0.0 labels (λ e. omega (arith, less, e)) in
+        ap (λ s. list_any (λ m. m == labels) (s ++ standing ks)) one.2 ∙
+        ap (λ b. b || list_any (λ m. m == labels) (standing ks)) apart ∙ rest
+
+pub free-label : (f : Function) → IsValidFunction f → not (stands (kinds f) f.labels) ≡ true
+free-label f valid = ap not (free-among f.registers f.labels (kinds f) valid.fit)
+
 pub valid-pushed : (f : Function) (node : ℕ) (o : Op) → IsValidFunction f → MayFollow f o.kind → length f.nodes < 1048576
     → IsValidFunction (record f { nodes = f.nodes ++ (node, o) ∷ [] })
 valid-pushed f node o valid follows few = record {

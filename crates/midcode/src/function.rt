@@ -1,7 +1,7 @@
-ghost use Rattle.std.specs.Prelude.{◌≡◌, ◌+◌, ◌<◌, [], ◌∷◌, ◌++◌, length, IsTrue, IfOk, IfSome, OnOk, OnErr};
+ghost use Rattle.std.specs.Prelude.{◌≡◌, ◌+◌, ◌<◌, [], ◌∷◌, ◌++◌, length, not, IsTrue, IfOk, IfSome, OnOk, OnErr};
 ghost use Rattle.linkarena.specs.Lists.{first_id};
 ghost use Rattle.midcode.specs.Operation.{is_value, parameters};
-ghost use Rattle.midcode.specs.Function.{fits, MayFollow, IsPushed, IsNode, AtNode, IsValidFunction};
+ghost use Rattle.midcode.specs.Function.{fits, kinds, stands, MayFollow, IsPushed, IsNode, AtNode, IsValidFunction};
 
 use crate::op::Op;
 use crate::register::{Label, VReg};
@@ -150,6 +150,7 @@ impl MidFn {
         requires { self.old.labels < MOST }
         ensures number { result.0 ≡ self.old.labels }
         ensures added { self.new ≡ record self.old { labels = self.old.labels + 1 } }
+        ensures free { IsTrue (not (stands (kinds self.new) result.0)) }
     {
         let label = Label(self.labels);
         self.labels += 1;

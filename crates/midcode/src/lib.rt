@@ -17,6 +17,6 @@ pub use object::{FirstPart, Object};
 pub use op::{
     Base, BinaryOp, CoreRegister, Mark, Op, OpKind, Operand, Test, UnaryOp, VolatileBase,
 };
-pub use program::MidProgram;
+pub use program::{MidProgram, ProgramParts};
 pub use register::{Label, Registers, VReg};
 pub use signature::Signature;

@@ -74,4 +74,39 @@ impl MidProgram {
     {
         self.main
     }
+
+    /// Gives back what the program was made of.
+    pub fn into_parts(self) -> ProgramParts
+        ensures functions { result.functions.items ≡ self.functions }
+        ensures objects { result.objects.items ≡ self.objects }
+        ensures regions { result.regions ≡ self.regions }
+        ensures main { result.main ≡ self.main }
+
+        // They make a program again.
+        ensures whole { IsTrue (is_whole self) }
+    {
+        let MidProgram {
+            functions,
+            objects,
+            regions,
+            main,
+        } = self;
+        ProgramParts {
+            functions,
+            objects,
+            regions,
+            main,
+        }
+    }
+}
+
+/// What a program is made of.
+#[derive(Drop)]
+pub struct ProgramParts {
+    pub functions: Vec<MidFn>,
+    pub objects: Vec<Object>,
+    /// The number of regions.
+    pub regions: u32,
+    /// The number of the function that runs first.
+    pub main: u32,
 }
