@@ -20,7 +20,7 @@ pub use blank::{behind_blanks, split_word, trimmed};
 pub use form::{Form, Operands, Word, form_of};
 pub use kinds::{Kind, Shape};
 pub use label::label_of;
-pub use laws::printed_is_read_again;
+pub use laws::{labels_are_found, printed_is_read_again, written_is_made};
 pub use make::instruction;
 pub use mnemonic::{MNEMONICS, Mnemonic};
 pub use number::{read_number, read_numbered};
