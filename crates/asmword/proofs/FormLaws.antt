@@ -21,7 +21,9 @@ use Rattle.isa.specs.declared.transfer.Bank.TheVariants.{Bank0, Bank1, Bank2}
 use Rattle.isa.specs.declared.transfer.Transfer.{Transfer}
 use Rattle.isa.specs.Low.{is_low_base}
 use Rattle.isa.specs.Row.{Fits, OperandFits, constant_number, device_number}
-use Rattle.std.specs.Prelude.{IsTrue}
+use Rattle.std.specs.Prelude.{IsTrue, option_map, codes}
+use Rattle.std.specs.Fmt.{decimal}
+use Rattle.isa.specs.Program.{has_target}
 use Rattle.std.proofs.lemmas.Bool.Decides.{nat_tests}
 use Rattle.asmword.specs.declared.form.Operands.{Operands}
 use Rattle.asmword.specs.declared.form.Operands.TheVariants as operands
@@ -33,9 +35,10 @@ use Rattle.asmword.specs.declared.kinds.Shape.{Shape}
 use Rattle.asmword.specs.declared.kinds.Shape.TheVariants.{Nothing, One, Two, Three, Four}
 use Rattle.asmword.specs.declared.mnemonic.Mnemonic.{Mnemonic}
 use Rattle.asmword.specs.declared.mnemonic.Mnemonic.TheVariants as mnemonic
-use Rattle.asmword.specs.Blanks.{behind_blanks, first_word, behind_word, parts_of, operand_parts}
+use Rattle.asmword.specs.Blanks.{behind_blanks, trimmed, first_word, behind_word, parts_of, operand_parts}
 use Rattle.asmword.specs.Forms.{value_word, jump_word, base_word, base_mnemonic, byte_part, written}
 use Rattle.asmword.specs.Kinds.{shape_of}
+use Rattle.asmword.specs.Labels.{has_label, label_among, label_in}
 use Rattle.asmword.specs.Mnemonics.{mnemonic_name}
 use Rattle.asmword.specs.Printing.{Printable, ArePrintable}
 use Rattle.asmword.specs.Reading.{next, operands_in, form_in}
@@ -105,35 +108,44 @@ four_back k l m n a b c d s t u v g e h f i j o p =
       next_back n d v [] o p,
     )
 
-none_back : operands_in Nothing (operand_parts []) ≡ Some operands.Nothing
-unfolding operands_in operand_parts behind_blanks
+none_back : operands_in Nothing [] ≡ Some operands.Nothing
+unfolding operands_in
 none_back = refl
 
-operands_back : (label : ℕ) (shape : Shape) (ops : Operands) → label < 2 ^ 32 → ArePrintable shape ops
-    → operands_in shape (operand_parts (operands_text label ops)) ≡ Some ops
-operands_back label Nothing operands.Nothing small h = none_back
-operands_back label (One k) (operands.One a) small h =
+-- the printed operands, each behind a space
+abbrev pub printed_parts : ℕ → Operands → List (List ℕ)
+printed_parts label operands.Nothing = []
+printed_parts label (operands.One a) = (32 ∷ word_text label a) ∷ []
+printed_parts label (operands.Two a b) = (32 ∷ word_text label a) ∷ (32 ∷ word_text label b) ∷ []
+printed_parts label (operands.Three a b c) = (32 ∷ word_text label a) ∷ (32 ∷ word_text label b) ∷ (32 ∷ word_text label c) ∷ []
+printed_parts label (operands.Four a b c d) =
+    (32 ∷ word_text label a) ∷ (32 ∷ word_text label b) ∷ (32 ∷ word_text label c) ∷ (32 ∷ word_text label d) ∷ []
+
+no_parts : operand_parts [] ≡ []
+unfolding operand_parts behind_blanks
+no_parts = refl
+
+pub parts_back : (label : ℕ) (shape : Shape) (ops : Operands) → label < 2 ^ 32 → ArePrintable shape ops
+    → operand_parts (operands_text label ops) ≡ printed_parts label ops
+unfolding operand_parts
+parts_back label Nothing operands.Nothing small h = no_parts
+parts_back label (One k) (operands.One a) small h =
     let g = word_good label k a small h in
-    let e = word_back label k a small h in
-    ap (operands_in (One k)) (some_parts _ (alone_some (word_text label a) g) ∙ one_part (word_text label a) g)
-    ∙ one_back k a (word_text label a) g e
-operands_back label (Two k l) (operands.Two a b) small h =
+    some_parts _ (alone_some (word_text label a) g) ∙ one_part (word_text label a) g
+parts_back label (Two k l) (operands.Two a b) small h =
     let g = word_good label k a small h.0 in
     let i = word_good label l b small h.1 in
-    ap (operands_in (Two k l)) (some_parts _ (good_some (word_text label a) (44 ∷ 32 ∷ word_text label b) g)
-    ∙ more_parts (word_text label a) (word_text label b) _ g (one_part (word_text label b) i))
-    ∙ two_back k l a b (word_text label a) (word_text label b) g (word_back label k a small h.0) i (word_back label l b small h.1)
-operands_back label (Three k l m) (operands.Three a b c) small h =
+    some_parts _ (good_some (word_text label a) (44 ∷ 32 ∷ word_text label b) g)
+    ∙ more_parts (word_text label a) (word_text label b) _ g (one_part (word_text label b) i)
+parts_back label (Three k l m) (operands.Three a b c) small h =
     let s = word_text label a in
     let t = word_text label b in
     let u = word_text label c in
     let g = word_good label k a small h.0 in
     let i = word_good label l b small h.1 in
     let j = word_good label m c small h.2 in
-    ap (operands_in (Three k l m)) (some_parts _ (good_some s (44 ∷ 32 ∷ (t ++ 44 ∷ 32 ∷ u)) g)
-    ∙ more_parts s (t ++ 44 ∷ 32 ∷ u) _ g (more_parts t u _ i (one_part u j)))
-    ∙ three_back k l m a b c s t u g (word_back label k a small h.0) i (word_back label l b small h.1) j (word_back label m c small h.2)
-operands_back label (Four k l m n) (operands.Four a b c d) small h =
+    some_parts _ (good_some s (44 ∷ 32 ∷ (t ++ 44 ∷ 32 ∷ u)) g) ∙ more_parts s (t ++ 44 ∷ 32 ∷ u) _ g (more_parts t u _ i (one_part u j))
+parts_back label (Four k l m n) (operands.Four a b c d) small h =
     let s = word_text label a in
     let t = word_text label b in
     let u = word_text label c in
@@ -142,11 +154,35 @@ operands_back label (Four k l m n) (operands.Four a b c d) small h =
     let i = word_good label l b small h.1 in
     let j = word_good label m c small h.2 in
     let o = word_good label n d small h.3 in
-    ap (operands_in (Four k l m n)) (some_parts _ (good_some s (44 ∷ 32 ∷ (t ++ 44 ∷ 32 ∷ (u ++ 44 ∷ 32 ∷ v))) g)
-    ∙ more_parts s (t ++ 44 ∷ 32 ∷ (u ++ 44 ∷ 32 ∷ v)) _ g (more_parts t (u ++ 44 ∷ 32 ∷ v) _ i (more_parts u v _ j (one_part v o))))
-    ∙ four_back k l m n a b c d s t u v g (word_back label k a small h.0) i (word_back label l b small h.1) j
-    (word_back label m c small h.2) o (word_back label n d small h.3)
-operands_back label shape ops small h = elim h [ ]
+    some_parts _ (good_some s (44 ∷ 32 ∷ (t ++ 44 ∷ 32 ∷ (u ++ 44 ∷ 32 ∷ v))) g)
+    ∙ more_parts s (t ++ 44 ∷ 32 ∷ (u ++ 44 ∷ 32 ∷ v)) _ g (more_parts t (u ++ 44 ∷ 32 ∷ v) _ i (more_parts u v _ j (one_part v o)))
+parts_back label shape ops small h = elim h [ ]
+
+read_back : (label : ℕ) (shape : Shape) (ops : Operands) → label < 2 ^ 32 → ArePrintable shape ops
+    → operands_in shape (printed_parts label ops) ≡ Some ops
+unfolding operands_in
+read_back label Nothing operands.Nothing small h = none_back
+read_back label (One k) (operands.One a) small h =
+    one_back k a (word_text label a) (word_good label k a small h) (word_back label k a small h)
+read_back label (Two k l) (operands.Two a b) small h =
+    two_back k l a b (word_text label a) (word_text label b) (word_good label k a small h.0) (word_back label k a small h.0)
+    (word_good label l b small h.1) (word_back label l b small h.1)
+read_back label (Three k l m) (operands.Three a b c) small h =
+    three_back k l m a b c (word_text label a) (word_text label b) (word_text label c)
+    (word_good label k a small h.0) (word_back label k a small h.0)
+    (word_good label l b small h.1) (word_back label l b small h.1)
+    (word_good label m c small h.2) (word_back label m c small h.2)
+read_back label (Four k l m n) (operands.Four a b c d) small h =
+    four_back k l m n a b c d (word_text label a) (word_text label b) (word_text label c) (word_text label d)
+    (word_good label k a small h.0) (word_back label k a small h.0)
+    (word_good label l b small h.1) (word_back label l b small h.1)
+    (word_good label m c small h.2) (word_back label m c small h.2)
+    (word_good label n d small h.3) (word_back label n d small h.3)
+read_back label shape ops small h = elim h [ ]
+
+operands_back : (label : ℕ) (shape : Shape) (ops : Operands) → label < 2 ^ 32 → ArePrintable shape ops
+    → operands_in shape (operand_parts (operands_text label ops)) ≡ Some ops
+operands_back label shape ops small h = ap (operands_in shape) (parts_back label shape ops small h) ∙ read_back label shape ops small h
 
 -- ---- the mnemonic
 
@@ -257,6 +293,68 @@ written_printable (inst.Branch c o a b) fits = (tt, field_small a, value_printab
 written_printable (inst.Qba o) fits = tt
 written_printable (inst.Load access) fits = load_printable access access.base fits access.low_base
 written_printable (inst.Store access) fits = store_printable access access.base fits access.low_base
+
+-- ---- the label
+
+-- the operands of a printed instruction stand behind its mnemonic
+rest_back : (label : ℕ) (m : Mnemonic) (ops : Operands)
+    → behind_word (behind_blanks (form_text label (record { mnemonic = m; operands = ops }))) ≡ operands_text label ops
+rest_back label m ops =
+    let n = named m in
+    let rest = operands_text label ops in
+    ap behind_word (solid_kept (mnemonic_name m) n.0.0 n.0.1 rest)
+    ∙ behind_solid (mnemonic_name m) rest n.0.0 (behind_spaced label ops)
+
+label_name : (label : ℕ) → label < 2 ^ 32 → trimmed (32 ∷ word_text label word.Label) ≡ codes "L" ++ decimal label
+label_name label small =
+    let g = word_good label kind.Label word.Label small tt in trimmed_space (word_text label word.Label) g.0 g.1
+
+among_back : (i : Inst) (label : ℕ) → label < 2 ^ 32 → IsTrue (has_target i)
+    → option_map trimmed (label_among (written i).operands (printed_parts label (written i).operands)) ≡ Some (codes "L" ++ decimal label)
+among_back (inst.Jmp (jump.Word n)) label small h = ap Some (label_name label small)
+among_back (inst.Jmp (jump.Field f)) label small h = absurd (cc)
+among_back (inst.Jal d (jump.Word n)) label small h = ap Some (label_name label small)
+among_back (inst.Jal d (jump.Field f)) label small h = absurd (cc)
+among_back (inst.Loop body) label small h = ap Some (label_name label small)
+among_back (inst.Branch c o a b) label small h = ap Some (label_name label small)
+among_back (inst.Qba o) label small h = ap Some (label_name label small)
+among_back (inst.Alu op d a b) label small h = absurd (cc)
+among_back (inst.Not d a) label small h = absurd (cc)
+among_back (inst.Ldi d n) label small h = absurd (cc)
+among_back (inst.Lmbd d a b) label small h = absurd (cc)
+among_back inst.Halt label small h = absurd (cc)
+among_back (inst.Xin t) label small h = absurd (cc)
+among_back (inst.Xout t) label small h = absurd (cc)
+among_back (inst.Load access) label small h = absurd (cc)
+among_back (inst.Store access) label small h = absurd (cc)
+
+pub label_back : (i : Inst) (label : ℕ) → Fits i → label < 2 ^ 32 → IsTrue (has_target i)
+    → label_in (written i) (form_text label (written i)) ≡ Some (codes "L" ++ decimal label)
+unfolding label_in
+label_back i label fits small h =
+    let ops = (written i).operands in
+    ap (λ text. option_map trimmed (label_among ops (operand_parts text))) (rest_back label (written i).mnemonic ops)
+    ∙ ap (λ parts. option_map trimmed (label_among ops parts))
+    (parts_back label (shape_of (written i).mnemonic) ops small (written_printable i fits))
+    ∙ among_back i label small h
+
+pub has_back : (i : Inst) → has_label (written i).operands ≡ has_target i
+has_back (inst.Alu op d a b) = refl
+has_back (inst.Not d a) = refl
+has_back (inst.Jmp (jump.Field f)) = refl
+has_back (inst.Jmp (jump.Word n)) = refl
+has_back (inst.Jal d (jump.Field f)) = refl
+has_back (inst.Jal d (jump.Word n)) = refl
+has_back (inst.Ldi d n) = refl
+has_back (inst.Lmbd d a b) = refl
+has_back inst.Halt = refl
+has_back (inst.Xin t) = refl
+has_back (inst.Xout t) = refl
+has_back (inst.Loop body) = refl
+has_back (inst.Branch c o a b) = refl
+has_back (inst.Qba o) = refl
+has_back (inst.Load access) = refl
+has_back (inst.Store access) = refl
 
 pub again : (i : Inst) (label : ℕ) → Fits i → label < 2 ^ 32 → form_in (form_text label (written i)) ≡ Some (written i)
 again i label fits small = form_back label (written i).mnemonic (written i).operands small (written_printable i fits)

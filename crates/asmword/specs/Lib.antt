@@ -2,6 +2,7 @@ pub mod Blanks
 pub mod Forms
 pub mod Instructions
 pub mod Kinds
+pub mod Labels
 pub mod Made
 pub mod Mnemonics
 pub mod Numbers

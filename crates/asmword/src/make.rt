@@ -15,6 +15,7 @@ use isa::{AluOp, Base, BranchOffset, Condition, Inst};
 /// The instruction with this mnemonic and these operands. `None` where a number is out of its range, or the operands are not of the
 /// mnemonic's kinds.
 pub fn instruction(form: Form) -> Option<Inst>
+    ensures value { result ≡ made form.mnemonic form.operands }
     ensures found { IfSome result (λ i. (written i ≡ form) × IsTrue (stands_least i)) }
     ensures only { (i : Inst) → Fits i → IsTrue (stands_least i) → written i ≡ form → result ≡ Some i }
 {

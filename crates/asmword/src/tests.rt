@@ -90,3 +90,24 @@ fn what_is_no_instruction_is_told_by_its_form_first(rt: HostRuntime) -> Result<(
     }
     Ok(())
 }
+
+#[test]
+fn labels_have_their_names(rt: HostRuntime) -> Result<(), Fail> {
+    for (text, wanted) in [
+        (b" JMP somewhere".as_slice(), Some(b"somewhere".as_slice())),
+        (b"JMP R3", None),
+        (b"JAL R3.w2,\tC4 ", Some(b"C4")),
+        (b"JAL R3.w2, R32", Some(b"R32")),
+        (b"loop End, 256", Some(b"End")),
+        (b"qbbs _x9 , R2, 31", Some(b"_x9")),
+        (b"QBA L9", Some(b"L9")),
+        (b"ADD R1, R2, R3", None),
+    ] {
+        let Some(form) = read_form(text) else {
+            return Err(Fail::new("no form"));
+        };
+        assert_eq!(rt; label_of(&form, text), wanted, "{text:?}");
+        assert_eq!(rt; form.has_label(), wanted.is_some(), "{text:?}");
+    }
+    Ok(())
+}
