@@ -9,3 +9,5 @@ pub mod WordLemmas
 pub mod TurnLemmas
 pub mod OrderLemmas
 pub mod PassLemmas
+pub mod Samples
+pub mod LongLemmas

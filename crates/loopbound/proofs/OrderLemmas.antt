@@ -17,7 +17,7 @@ use Rattle.loopbound.specs.Path.{at}
 use Rattle.loopbound.specs.Table.{shapes, side_of, CanGo, Labels, TurnsNone, NoTurn, Enters, KeepsBounds}
 use Rattle.loopbound.specs.Table.{Reason, at_entry, by_step, TurnReason}
 use Rattle.loopbound.specs.Joining.{joined, turn_all, sum_behind}
-use Rattle.loopbound.specs.Order.{is_turn, turned_loop, place_by, NotLater, StandsAt, StandsBefore as Done, InOrder}
+use Rattle.loopbound.specs.Order.{is_turn, turned_loop, place, Ascend, place_by, NotLater, StandsAt, StandsBefore as Done, InOrder}
 use Rattle.loopbound.proofs.EachLemmas.{contained-each, each-contained, each-map, each-shape, shape-each, contains_first, contains_later}
 use Rattle.loopbound.proofs.EachLemmas.{only, pairs, Nests}
 use Rattle.loopbound.proofs.ExactLemmas.{held, holding, held_in, turned}
@@ -97,6 +97,18 @@ split_done steps i t s stands d = by (cases_lt d.index i)
         inr (sym d.stands.1 ∙ (one_element steps d.index t s d.stands.0
         ∙ (ap (λ (j : ℕ). slice_index_or steps j s) e ∙ stands.1)))
 
+ascends : (loops : List Loop) (steps : List Step) → Ascend loops steps → (i j : ℕ) (s t : Step) → i < j → StandsAt steps i s
+    → StandsAt steps j t → NotLater (place loops s) (place loops t)
+ascends loops [] up i j s t less at_i at_j = absurd (let a = at_i.0 in omega (arith, a))
+ascends loops (x ∷ xs) up i zero s t less at_i at_j = absurd (omega (arith, less))
+ascends loops (x ∷ xs) up zero (suc j) s t less at_i at_j =
+    subst (λ (y : Step). NotLater (place loops y) (place loops t)) at_i.1
+    (each-contained (λ t. NotLater (place loops x) (place loops t)) xs up.0 t
+    (j, let a = at_j.0 in omega (arith, a), at_j.1))
+ascends loops (x ∷ xs) up (suc i) (suc j) s t less at_i at_j =
+    ascends loops xs up.1 i j s t (omega (arith, less)) (let a = at_i.0 in omega (arith, a), at_i.1)
+    (let a = at_j.0 in omega (arith, a), at_j.1)
+
 module _ (steps : List Step) (shape : List Loop) (entry : ℕ) (order : InOrder steps shape entry) where
   pub contained : (i : ℕ) (t : Step) → StandsAt steps i t → Contains steps t
   contained i t stands = (i, stands.0, stands.1)
@@ -116,7 +128,7 @@ module _ (steps : List Step) (shape : List Loop) (entry : ℕ) (order : InOrder 
 
   earlier : (i : ℕ) (t s : Step) → Done steps i t → StandsAt steps i s → Earlier t s
   earlier i t s d stands =
-      by (turned_loop shape t.from t.to) (turned_loop shape s.from s.to) refl refl (order.ascend d.index i t s d.less d.stands stands)
+      by (turned_loop shape t.from t.to) (turned_loop shape s.from s.to) refl refl (ascends shape steps order.ascend d.index i t s d.less d.stands stands)
     where
       by : (a b : Option Loop) → turned_loop shape t.from t.to ≡ a → turned_loop shape s.from s.to ≡ b
           → NotLater (place_by t.to a) (place_by s.to b) → Earlier t s

@@ -10,6 +10,7 @@ use Rattle.loopbound.specs.declared.graph.Side.{Side}
 use Rattle.loopbound.specs.declared.graph.Step.{Step}
 use Rattle.loopbound.specs.declared.graph.TimedLoop.{TimedLoop}
 use Rattle.loopbound.specs.Loops.{move}
+use Rattle.loopbound.specs.Path.{Path, Exactly}
 use Rattle.loopbound.specs.Table.{shapes, Labels, label_in, Fits, Tight, Nested}
 use Rattle.loopbound.specs.Joining.{IsAbove}
 
@@ -51,10 +52,15 @@ pub record StandsBefore (steps : List Step) (i : ℕ) (s : Step) : Type 0 where
   pub less : index < i
   pub stands : StandsAt steps index s
 
+-- each step stands no later than those behind it in the list
+abbrev pub Ascend : List Loop → List Step → Type 0
+Ascend loops [] = Unit {0}
+Ascend loops (s ∷ steps) = AllByRecursion (λ t. NotLater (place loops s) (place loops t)) steps × Ascend loops steps
+
 -- The steps stand in this order, and those that turn nothing go upwards.
 pub record InOrder (steps : List Step) (loops : List Loop) (entry : ℕ) : Type 0 where
   pub nested : Nested (Contains steps) loops entry
-  pub ascend : (i j : ℕ) (s t : Step) → i < j → StandsAt steps i s → StandsAt steps j t → NotLater (place loops s) (place loops t)
+  pub ascend : Ascend loops steps
   pub upwards : (s : Step) → Contains steps s → turned_loop loops s.from s.to ≡ None → s.from < s.to
 
 -- ---- what a pass is given, and where it ends
@@ -78,3 +84,12 @@ pub record IsLong (steps : List Step) (shape : List Loop) (entry limit : ℕ) : 
   pub fits : Fits (StandsBefore steps index) loops label entry
   pub tight : (side : Side) → Tight (StandsBefore steps index) loops label entry side
   pub above : IsAbove step loops label limit
+
+-- a path whose steps all take their least, or all their most, and whose sum is above a limit
+pub record LongPath (steps : List Step) (loops : List Loop) (entry limit : ℕ) : Type 0 where
+  pub side : Side
+  pub word : ℕ
+  pub counts : Loop → ℕ
+  pub sum : ℕ
+  pub path : Path (Exactly side) (Contains steps) loops entry word counts sum
+  pub above : limit < sum

@@ -7,6 +7,7 @@ ghost use Rattle.loopbound.specs.declared.graph.Step.{Step};
 ghost use Rattle.loopbound.specs.declared.graph.TimedLoop.{TimedLoop};
 ghost use Rattle.loopbound.specs.declared.graph.Side.{Side};
 ghost use Rattle.loopbound.specs.Path.{Path, Within, Exactly, Shares, AreBounds};
+ghost use Rattle.loopbound.specs.Order.{IsLong, LongPath};
 ghost use Rattle.loopbound.specs.Table.{Labels, Fits, Tight, Nested, Running, Bounded, shapes, side_of, taken};
 
 /// Bounds that each step keeps are bounds of each path: where a loop has turned k times in a path, the sum has k of its turns.
@@ -33,4 +34,10 @@ pub fn exact_labels()
         → Nested (Contains steps) (shapes loops) entry → Fits (Contains steps) loops label entry
         → Tight (Contains steps) loops label entry Side.Least → Tight (Contains steps) loops label entry Side.Most
         → label w ≡ Some b → AreBounds (Shares (Contains steps) (shapes loops) entry w) b }
+{}
+
+/// Where a pass finds a step with a sum above the limit, some path has such a sum.
+pub fn long_path()
+    ensures { (steps : List Step) (loops : List Loop) (entry limit : ℕ)
+        → Nested (Contains steps) loops entry → IsLong steps loops entry limit → LongPath steps loops entry limit }
 {}

@@ -130,6 +130,7 @@ fn laws_and_parts(rt: HostRuntime) {
     soundness();
     exactness();
     exact_labels();
+    long_path();
     let turn = step(2, 1, 2);
     let loops = [timed(1, 2, 2, 3, one(3))];
     let labels = [one(0), one(1), one(2)];
@@ -156,5 +157,84 @@ fn laws_and_parts(rt: HostRuntime) {
     assert_eq!(rt;
         (keeps_bounds(&turn, &loops, &labels), label_of(&labels, 3)),
         (true, None)
+    );
+}
+
+// what one pass makes of empty labels
+fn passed(
+    steps: &[Step],
+    loops: &mut [TimedLoop],
+    labels: &mut [Option<Bounds>],
+    limit: u32,
+) -> Passed {
+    pass(steps, loops, labels, 0, limit)
+}
+
+const LONGEST: u32 = 2_000_000;
+
+#[test]
+fn pass_over_unequal_arms(rt: HostRuntime) {
+    let steps = [step(0, 1, 1), step(0, 2, 1), step(1, 3, 1), step(2, 3, 3)];
+    let mut labels = [None; 4];
+    assert_eq!(rt;
+        passed(&steps, &mut [], &mut labels, LONGEST),
+        Passed::Exact
+    );
+    assert_eq!(rt; labels, [one(0), one(1), one(1), between(2, 4)]);
+}
+
+#[test]
+fn pass_over_nested_loops(rt: HostRuntime) {
+    let steps = [
+        step(0, 1, 1),
+        step(1, 2, 1),
+        step(2, 3, 1),
+        step(3, 2, 1),
+        step(3, 4, 1),
+        step(4, 1, 1),
+        step(4, 5, 1),
+    ];
+    let mut loops = [timed(2, 3, 3, 3, None), timed(1, 4, 4, 2, None)];
+    let mut labels = [None; 6];
+    assert_eq!(rt;
+        passed(&steps, &mut loops, &mut labels, LONGEST),
+        Passed::Exact
+    );
+    assert_eq!(rt; labels, [one(0), one(1), one(2), one(3), one(8), one(17)]);
+    assert_eq!(rt;
+        loops,
+        [timed(2, 3, 3, 3, one(2)), timed(1, 4, 4, 2, one(8))]
+    );
+}
+
+// the sum is just at the limit, and above it
+#[test]
+fn pass_to_the_limit(rt: HostRuntime) {
+    let steps = [step(0, 1, 1), step(1, 1, 1), step(1, 2, 1)];
+    let mut at = [timed(1, 1, 1, 1_999_999, None)];
+    let mut labels = [None; 3];
+    assert_eq!(rt;
+        passed(&steps, &mut at, &mut labels, LONGEST),
+        Passed::Exact
+    );
+    assert_eq!(rt; labels, [one(0), one(1), one(2_000_000)]);
+    let mut above = [timed(1, 1, 1, 2_000_000, None)];
+    let mut empty = [None; 3];
+    assert_eq!(rt;
+        passed(&steps, &mut above, &mut empty, LONGEST),
+        Passed::Long
+    );
+    let mut most = [timed(1, 1, 1, 4_294_967_295, None)];
+    let mut none = [None; 3];
+    assert_eq!(rt; passed(&steps, &mut most, &mut none, LONGEST), Passed::Long);
+}
+
+#[test]
+fn pass_out_of_order(rt: HostRuntime) {
+    let steps = [step(1, 2, 1), step(0, 1, 1)];
+    let mut labels = [None; 3];
+    assert_eq!(rt;
+        passed(&steps, &mut [], &mut labels, LONGEST),
+        Passed::Disordered
     );
 }
