@@ -8,4 +8,5 @@ pub mod Whole
 pub mod Removed
 pub mod MarkLemmas
 pub mod SweepLemmas
+pub mod Search
 pub mod Samples
