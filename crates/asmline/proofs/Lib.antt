@@ -1,0 +1,2 @@
+mod ClearLaws
+mod LineLaws

@@ -186,14 +186,14 @@ operands_back label shape ops small h = ap (operands_in shape) (parts_back label
 
 -- ---- the mnemonic
 
-first_spaced : (label : ℕ) (ops : Operands) → first_word (operands_text label ops) ≡ []
+pub first_spaced : (label : ℕ) (ops : Operands) → first_word (operands_text label ops) ≡ []
 first_spaced label operands.Nothing = first_none
 first_spaced label (operands.One a) = first_space _
 first_spaced label (operands.Two a b) = first_space _
 first_spaced label (operands.Three a b c) = first_space _
 first_spaced label (operands.Four a b c d) = first_space _
 
-behind_spaced : (label : ℕ) (ops : Operands) → behind_word (operands_text label ops) ≡ operands_text label ops
+pub behind_spaced : (label : ℕ) (ops : Operands) → behind_word (operands_text label ops) ≡ operands_text label ops
 behind_spaced label operands.Nothing = behind_none
 behind_spaced label (operands.One a) = behind_space _
 behind_spaced label (operands.Two a b) = behind_space _
@@ -278,7 +278,7 @@ store_printable : (a : Access) (b : Base) → OperandFits a.offset → IsTrue (i
 store_printable a (base.Reg n) fits low = load_printable a (base.Reg n) fits low
 store_printable a (base.Constant c) fits low = load_printable a (base.Constant c) fits low
 
-written_printable : (i : Inst) → Fits i → ArePrintable (shape_of (written i).mnemonic) (written i).operands
+pub written_printable : (i : Inst) → Fits i → ArePrintable (shape_of (written i).mnemonic) (written i).operands
 written_printable (inst.Alu op d a b) fits = (field_small d, field_small a, value_printable b fits)
 written_printable (inst.Not d a) fits = (field_small d, field_small a)
 written_printable (inst.Jmp to) fits = jump_printable to
@@ -297,7 +297,7 @@ written_printable (inst.Store access) fits = store_printable access access.base 
 -- ---- the label
 
 -- the operands of a printed instruction stand behind its mnemonic
-rest_back : (label : ℕ) (m : Mnemonic) (ops : Operands)
+pub rest_back : (label : ℕ) (m : Mnemonic) (ops : Operands)
     → behind_word (behind_blanks (form_text label (record { mnemonic = m; operands = ops }))) ≡ operands_text label ops
 rest_back label m ops =
     let n = named m in

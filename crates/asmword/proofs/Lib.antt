@@ -1,10 +1,10 @@
 mod Again
-mod BlankLaws
-mod FormLaws
+pub mod BlankLaws
+pub mod FormLaws
 mod Found
 mod HexLaws
-mod MnemonicLaws
+pub mod MnemonicLaws
 mod NameLaws
-mod PartLaws
-mod SolidLaws
-mod WordLaws
+pub mod PartLaws
+pub mod SolidLaws
+pub mod WordLaws

@@ -46,7 +46,7 @@ no_prefix true true z h = absurd (cc)
 no_prefix true false z h = refl
 no_prefix false y z h = refl
 
-number_back : (n : ℕ) → n < 2 ^ 32 → number_in (decimal n) ≡ Some n
+pub number_back : (n : ℕ) → n < 2 ^ 32 → number_in (decimal n) ≡ Some n
 unfolding number_in
 number_back n h =
     let told = is_decimal_told (decimal n) n (decimal_reads n (omega arith)) in
@@ -110,7 +110,7 @@ digits_names (c ∷ text) h =
     one : (c : ℕ) → is_ascii_digit c ≡ true → is_name_byte c ≡ true
     one c h = grind (arith, nat_tests)
 
-label_named : (n : ℕ) → n < 2 ^ 32 → is_name (76 ∷ decimal n) ≡ true
+pub label_named : (n : ℕ) → n < 2 ^ 32 → is_name (76 ∷ decimal n) ≡ true
 unfolding is_name numbered
 label_named n h =
     and_from _ _ (and_from _ _ (and_from (is_name_byte 76) _ refl (digits_names (decimal n) (decimal_digits n (omega arith)).0)) refl) refl
