@@ -1,5 +1,6 @@
 -- What the order of the steps says of those before a step.
-use Rattle.std.proofs.Common.{◌≡◌, ℕ, zero, suc, ◌+◌, ◌-◌, ◌<◌, ◌≤◌, ◌⊎◌, inl, inr, Bool, true, false, List, [], ◌∷◌, length, Option, Some, None}
+use Rattle.std.proofs.Common.{◌≡◌, ℕ, zero, suc, ◌+◌, ◌-◌, ◌<◌, ◌≤◌, ◌⊎◌, inl, inr, Bool, true, false, List, [], ◌∷◌}
+use Rattle.std.proofs.Common.{length, Option, Some, None}
 use Rattle.std.proofs.Common.{IsSome, is_some, refl, sym, ap, ◌∙◌, subst, arith, Contains}
 use Rattle.std.specs.Prelude.{slice_index_or, if◌then◌else◌}
 use Rattle.std.specs.List.{AllByRecursion}
@@ -128,7 +129,8 @@ module _ (steps : List Step) (shape : List Loop) (entry : ℕ) (order : InOrder 
 
   earlier : (i : ℕ) (t s : Step) → Done steps i t → StandsAt steps i s → Earlier t s
   earlier i t s d stands =
-      by (turned_loop shape t.from t.to) (turned_loop shape s.from s.to) refl refl (ascends shape steps order.ascend d.index i t s d.less d.stands stands)
+      by (turned_loop shape t.from t.to) (turned_loop shape s.from s.to) refl refl
+      (ascends shape steps order.ascend d.index i t s d.less d.stands stands)
     where
       by : (a b : Option Loop) → turned_loop shape t.from t.to ≡ a → turned_loop shape s.from s.to ≡ b
           → NotLater (place_by t.to a) (place_by s.to b) → Earlier t s

@@ -22,7 +22,8 @@ pub fn soundness()
 /// take their least cycles has the least sum, and one whose steps take their most the greatest.
 pub fn exactness()
     ensures { (steps : List Step) (loops : List TimedLoop) (label : Labels) (entry : ℕ) (side : Side) (w : ℕ) (k : Loop → ℕ)
-        → Nested (Contains steps) (shapes loops) entry → Fits (Contains steps) loops label entry → Tight (Contains steps) loops label entry side
+        → Nested (Contains steps) (shapes loops) entry → Fits (Contains steps) loops label entry
+        → Tight (Contains steps) loops label entry side
         → IsSome (label w) → Running loops w k
         → Path (Exactly side) (Contains steps) (shapes loops) entry w k (side_of side (label w) + taken side k loops) }
 {}
