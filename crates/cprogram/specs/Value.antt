@@ -1,4 +1,4 @@
--- The type of a value, by its kind.
+-- The type of a value, by its kind, and what a value is where nothing takes it.
 use Rattle.std.specs.Prelude.{Option, Some, None}
 use Rattle.csyn.specs.declared.specifiers.Sign.TheVariants.{Signed, Unsigned}
 use Rattle.cprogram.specs.Scalar.{arithmetic}
@@ -45,3 +45,14 @@ kind_scalar (kind.ScratchpadOut' _ _ _ _) = None
 
 abbrev pub value_scalar : Value → Option Scalar
 value_scalar v = kind_scalar v.kind
+
+-- a call's result where nothing takes it
+abbrev pub unused_result : CallResult → CallResult
+unused_result Void = Void
+unused_result (Unused s) = Unused s
+unused_result (Used s) = Unused s
+
+-- a value where nothing takes it: only calls tell whether it is taken
+abbrev pub unused_kind : kind.ValueKind → kind.ValueKind
+unused_kind (kind.Call f r all) = kind.Call f (unused_result r) all
+unused_kind k = k

@@ -34,7 +34,7 @@ impl Drop for LeafValues {
 }
 
 /// The initialiser of a local (C99 6.7.8).
-#[derive(Debug, Drop)]
+#[derive(Debug)]
 pub enum Initialiser {
     /// Of an integer or a pointer.
     Scalar(Box<Operand>),
@@ -42,13 +42,32 @@ pub enum Initialiser {
     Leaves(LeafValues),
 }
 
+impl Drop for Initialiser {
+    fn drop(self) {
+        match self {
+            Initialiser::Scalar(_) => {}
+            Initialiser::Leaves(_) => {}
+        }
+    }
+}
+
 /// One declarator of a declaration of locals. The local is unset by it, and then set by its initialiser.
-#[derive(Debug, Drop)]
+#[derive(Debug)]
 pub struct Declaration {
     /// That of the whole declaration.
     pub mark: Mark,
     pub local: LocalId,
     pub initialiser: Option<Initialiser>,
+}
+
+impl Drop for Declaration {
+    fn drop(self) {
+        let Declaration {
+            mark: _,
+            local: _,
+            initialiser: _,
+        } = self;
+    }
 }
 
 #[derive(Debug)]
@@ -69,22 +88,38 @@ impl Drop for Declarations {
 }
 
 /// What stands first in the parentheses of a `for`.
-#[derive(Debug, Drop)]
+#[derive(Debug)]
 pub enum ForFirst {
     Declarations(Declarations),
     Expression(Option<Box<Value>>),
 }
 
+impl Drop for ForFirst {
+    fn drop(self) {
+        match self {
+            ForFirst::Declarations(_) => {}
+            ForFirst::Expression(_) => {}
+        }
+    }
+}
+
 /// A statement (C99 6.8).
 #[cycle(stmt)]
-#[derive(Debug, Drop)]
+#[derive(Debug)]
 pub struct Stmt {
     pub mark: Mark,
     pub kind: StmtKind,
 }
 
+impl Drop for Stmt {
+    #[cycle(stmt)]
+    fn drop(self) {
+        let Stmt { mark: _, kind: _ } = self;
+    }
+}
+
 #[cycle(stmt)]
-#[derive(Debug, Drop)]
+#[derive(Debug)]
 pub enum StmtKind {
     Block(Items),
     Expression(Option<Box<Value>>),
@@ -101,6 +136,26 @@ pub enum StmtKind {
     Continue,
     Return(Option<Box<Operand>>),
     Region(RegionId, Items),
+}
+
+impl Drop for StmtKind {
+    #[cycle(stmt)]
+    fn drop(self) {
+        match self {
+            StmtKind::Block(_) => {}
+            StmtKind::Expression(_) => {}
+            StmtKind::If(_, _) => {}
+            StmtKind::IfElse(_, _, _) => {}
+            StmtKind::While(_, _) => {}
+            StmtKind::Do(_, _) => {}
+            StmtKind::For(_, _, _, _, _) => {}
+            StmtKind::Switch(_, _) => {}
+            StmtKind::Break => {}
+            StmtKind::Continue => {}
+            StmtKind::Return(_) => {}
+            StmtKind::Region(_, _) => {}
+        }
+    }
 }
 
 /// The items of a block, with an item for each declarator.

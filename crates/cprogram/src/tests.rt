@@ -2,7 +2,7 @@ ghost use Rattle.std.specs.Prelude.{◌≡◌};
 ghost use Rattle.cprogram.specs.Scalar.{scalar_width};
 
 use super::*;
-use csyn::{BinaryOperator, ComparisonOperator, Sign};
+use csyn::{BinaryOperator, ComparisonOperator, Mark, Sign, Span};
 use prunum::Width;
 use std::alloc::{AllocError, Global};
 use std::test::Fail;
@@ -143,4 +143,55 @@ fn leaves_of_objects(rt: HostRuntime) -> Result<(), Fail> {
     let pointer = Layout::of_scalar(rt.alloc(), Scalar::Pointer(PointerKind::Plain))?;
     assert_eq!(rt; (pointer.size(), pointer.count()), (4, 1));
     Ok(())
+}
+
+// The result of a call as it is where nothing takes the value.
+fn result_where_unused(value: Value) -> Option<CallResult> {
+    let (_, kind) = value.into_parts();
+    match &kind.unused() {
+        ValueKind::Call(_, result, _) => Some(*result),
+        _ => None,
+    }
+}
+
+fn mark(number: u32) -> Mark {
+    Mark {
+        number,
+        span: Span { line: 1, column: 1 },
+        tokens: 1,
+    }
+}
+
+fn value(kind: ValueKind) -> Value {
+    let mark = mark(0);
+    Value { mark, kind }
+}
+
+fn mark_of(place: Place) -> Mark {
+    let (mark, _) = place.into_parts();
+    mark
+}
+
+#[test]
+fn marks_of_places(rt: HostRuntime) {
+    let place = Place {
+        mark: mark(5),
+        kind: PlaceKind::Local(LocalId(2)),
+    };
+    assert_eq!(rt; mark_of(place).number, 5);
+}
+
+#[test]
+fn results_that_nothing_takes(rt: HostRuntime) {
+    let scalar = Scalar::arithmetic(Sign::Signed);
+    let table = [
+        (CallResult::Void, CallResult::Void),
+        (CallResult::Unused(scalar), CallResult::Unused(scalar)),
+        (CallResult::Used(scalar), CallResult::Unused(scalar)),
+    ];
+    for (result, unused) in table {
+        let call = value(ValueKind::Call(FunctionId(3), result, Operands::End));
+        assert_eq!(rt; result_where_unused(call), Some(unused));
+    }
+    assert!(rt; result_where_unused(value(ValueKind::Halt)).is_none());
 }

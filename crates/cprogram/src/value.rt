@@ -34,7 +34,7 @@ pub enum CallResult {
 
 impl CallResult {
     ghost use Rattle.std.specs.Prelude.{◌≡◌};
-    ghost use Rattle.cprogram.specs.Value.{result_scalar};
+    ghost use Rattle.cprogram.specs.Value.{result_scalar, unused_result};
 
     /// The type of the function's result.
     pub fn scalar(self) -> Option<Scalar>
@@ -43,6 +43,16 @@ impl CallResult {
         match self {
             CallResult::Void => None,
             CallResult::Unused(scalar) | CallResult::Used(scalar) => Some(scalar),
+        }
+    }
+
+    /// The same call where nothing takes its result.
+    pub fn unused(self) -> CallResult
+        ensures { result ≡ unused_result self }
+    {
+        match self {
+            CallResult::Void => CallResult::Void,
+            CallResult::Unused(scalar) | CallResult::Used(scalar) => CallResult::Unused(scalar),
         }
     }
 }
@@ -57,14 +67,21 @@ pub struct Delay {
 
 /// An expression that names an object or a part of one (C99 6.3.2.1). It is a node of the tree.
 #[cycle(value)]
-#[derive(Debug, Drop)]
+#[derive(Debug)]
 pub struct Place {
     pub mark: Mark,
     pub kind: PlaceKind,
 }
 
+impl Drop for Place {
+    #[cycle(value)]
+    fn drop(self) {
+        let Place { mark: _, kind: _ } = self;
+    }
+}
+
 #[cycle(value)]
-#[derive(Debug, Drop)]
+#[derive(Debug)]
 pub enum PlaceKind {
     Local(LocalId),
     /// A plain file object.
@@ -82,17 +99,60 @@ pub enum PlaceKind {
     Arrow(Box<Value>, Offset),
 }
 
+impl Drop for PlaceKind {
+    #[cycle(value)]
+    fn drop(self) {
+        match self {
+            PlaceKind::Local(_) => {}
+            PlaceKind::Global(_) => {}
+            PlaceKind::Volatile(_) => {}
+            PlaceKind::Register(_) => {}
+            PlaceKind::Dereference(_) => {}
+            PlaceKind::Subscript(_, _, _, _) => {}
+            PlaceKind::Member(_, _) => {}
+            PlaceKind::Arrow(_, _) => {}
+        }
+    }
+}
+
+impl Place {
+    ghost use Rattle.std.specs.Prelude.{◌≡◌};
+
+    /// Its mark, and what it names.
+    pub fn into_parts(self) -> (Mark, PlaceKind)
+        ensures { result ≡ (self.mark, self.kind) }
+    {
+        let Place { mark, kind } = self;
+        (mark, kind)
+    }
+}
+
 /// An expression that is evaluated to a value, or to none where it is of type void.
 #[cycle(value)]
-#[derive(Debug, Drop)]
+#[derive(Debug)]
 pub struct Value {
     pub mark: Mark,
     pub kind: ValueKind,
 }
 
+impl Drop for Value {
+    #[cycle(value)]
+    fn drop(self) {
+        let Value { mark: _, kind: _ } = self;
+    }
+}
+
 impl Value {
     ghost use Rattle.std.specs.Prelude.{◌≡◌};
     ghost use Rattle.cprogram.specs.Value.{value_scalar};
+
+    /// Its mark, and what it is.
+    pub fn into_parts(self) -> (Mark, ValueKind)
+        ensures { result ≡ (self.mark, self.kind) }
+    {
+        let Value { mark, kind } = self;
+        (mark, kind)
+    }
 
     /// The type of its value; None where it is of type void.
     pub fn scalar(&self) -> Option<Scalar>
@@ -132,7 +192,7 @@ impl Value {
 /// What a value is. All arithmetic is done on numbers of four bytes, with or without sign (C99 6.3.1): a `Sign` tells which. A sign
 /// before the number of elements by which a pointer moves tells how that number is read.
 #[cycle(value)]
-#[derive(Debug, Drop)]
+#[derive(Debug)]
 pub enum ValueKind {
     /// A number or a character, or the size that a `sizeof` tells.
     Number(u32, Sign),
@@ -184,12 +244,75 @@ pub enum ValueKind {
     ScratchpadOut(ScratchpadRegister, Box<Value>),
 }
 
+impl Drop for ValueKind {
+    #[cycle(value)]
+    fn drop(self) {
+        match self {
+            ValueKind::Number(_, _) => {}
+            ValueKind::Read(_, _) => {}
+            ValueKind::ArrayPointer(_, _, _) => {}
+            ValueKind::Address(_, _) => {}
+            ValueKind::Cast(_, _) => {}
+            ValueKind::Unary(_, _, _) => {}
+            ValueKind::Not(_) => {}
+            ValueKind::Binary(_, _, _, _) => {}
+            ValueKind::Comparison(_, _, _, _) => {}
+            ValueKind::PointerComparison(_, _, _) => {}
+            ValueKind::Logical(_, _, _) => {}
+            ValueKind::Conditional(_, _, _, _) => {}
+            ValueKind::Comma(_, _, _) => {}
+            ValueKind::PointerOffset(_, _, _, _, _) => {}
+            ValueKind::IndexPlusPointer(_, _, _, _) => {}
+            ValueKind::PointerDifference(_, _, _) => {}
+            ValueKind::Assign(_, _, _) => {}
+            ValueKind::AssignWith(_, _, _, _, _) => {}
+            ValueKind::OffsetAssign(_, _, _, _, _, _) => {}
+            ValueKind::Step(_, _, _, _) => {}
+            ValueKind::PointerStep(_, _, _, _, _) => {}
+            ValueKind::Call(_, _, _) => {}
+            ValueKind::LeftmostBit(_, _) => {}
+            ValueKind::Delay(_) => {}
+            ValueKind::Halt => {}
+            ValueKind::ScratchpadIn(_, _) => {}
+            ValueKind::ScratchpadOut(_, _) => {}
+        }
+    }
+}
+
+impl ValueKind {
+    ghost use Rattle.std.specs.Prelude.{◌≡◌};
+    ghost use Rattle.cprogram.specs.Value.{unused_kind};
+
+    /// The same value where nothing takes it: there the result of a call is unused.
+    #[tactic(auto, using(crate::proofs::Unused::others))]
+    pub fn unused(self) -> ValueKind
+        ensures { result ≡ unused_kind self }
+    {
+        match self {
+            ValueKind::Call(function, call, arguments) => {
+                ValueKind::Call(function, call.unused(), arguments)
+            }
+            other => other,
+        }
+    }
+}
+
 /// A value, and the conversion that is implied where it stands or that a cast of it asks for.
 #[cycle(value)]
-#[derive(Debug, Drop)]
+#[derive(Debug)]
 pub struct Operand {
     pub conversion: Conversion,
     pub value: Value,
+}
+
+impl Drop for Operand {
+    #[cycle(value)]
+    fn drop(self) {
+        let Operand {
+            conversion: _,
+            value: _,
+        } = self;
+    }
 }
 
 /// The arguments of a call.
