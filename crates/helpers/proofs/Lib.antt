@@ -10,3 +10,7 @@ pub mod Signs
 pub mod Signing
 pub mod Signed
 pub mod Shapes
+pub mod Moves
+pub mod Plans
+pub mod EvenPaths
+pub mod BodyPlans
