@@ -18,7 +18,7 @@ use Rattle.corepath.specs.Flow.{Goes, Calls, Returns, called, Aims}
 use Rattle.corepath.specs.Flow.{Reaches, begin as reaches_begin, step as reaches_step, call as reaches_call}
 use Rattle.corepath.specs.Loops.{Loop}
 use Rattle.corepath.specs.Path.{Path, begin, step, call, Shares, IsFirstTurn, own_cost, come, is_loop}
-use Rattle.helpers.specs.Paths.{IsWithin, IsEven}
+use Rattle.helpers.specs.Paths.{IsWithin}
 use Rattle.helpers.specs.Runs.{StandsAt}
 use Rattle.helpers.proofs.Moves.{each_place, each_at, is_tame, moves, aim_of, lands, tame_cost, tame_calls, Stood, stood}
 use Rattle.helpers.proofs.Plans.{Plan, sum_in, is_sum, sum_within, keeps_outside, outside_by, keeps_inside, inside_by, keeps_move, loops}
@@ -29,7 +29,7 @@ use Rattle.helpers.proofs.Plans.{At, Stands, Onto, inside_step, out_step, began,
 abbrev tame_at : ℕ → Placed → Bool
 tame_at p x = is_tame x.inst
 
-abbrev moves_within : ℕ → List Item → ℕ → Placed → Bool
+abbrev pub moves_within : ℕ → List Item → ℕ → Placed → Bool
 moves_within count items p x = list_all (λ q. nat_lt q count) (moves items p x)
 
 abbrev some_sum : Option ℕ → Bool
@@ -77,18 +77,18 @@ some_is a b is = cc
 
 module _ (plan : Plan) (count cycles : ℕ) (items : List Item) (keeps : Keeps plan count cycles items) (code : Code) (region base : ℕ)
     (stands : StandsAt code base items) where
-  here : (p : ℕ) → p < count → Stood code base items p
+  pub here : (p : ℕ) → p < count → Stood code base items p
   here p less = let size = keeps.size in stood code base items p stands (omega (arith, size))
 
-  tame : (p : ℕ) (s : Stood code base items p) → is_tame s.x.inst ≡ true
+  pub tame : (p : ℕ) (s : Stood code base items p) → is_tame s.x.inst ≡ true
   tame p s = each_at tame_at p (placed [] items) s.x keeps.tame s.at
 
-  same_inst : (p : ℕ) (s : Stood code base items p) (w : ℕ) (i : Inst) → w ≡ base + p → code.inst w ≡ Some i → s.x.inst ≡ i
+  pub same_inst : (p : ℕ) (s : Stood code base items p) (w : ℕ) (i : Inst) → w ≡ base + p → code.inst w ≡ Some i → s.x.inst ≡ i
   same_inst p s w i at is = some_is s.x.inst i (sym s.inst ∙ ap code.inst (sym at) ∙ is)
 
   -- ---- it stays in the body
 
-  onward_within : (p w d : ℕ) → p < count → w ≡ base + p → Goes code region w d → (q : ℕ) × (q < count) × (d ≡ base + q)
+  pub onward_within : (p w d : ℕ) → p < count → w ≡ base + p → Goes code region w d → (q : ℕ) × (q < count) × (d ≡ base + q)
   onward_within p w d less at goes =
       let s = here p less in
       let same = same_inst p s w goes.inst at goes.is in
@@ -98,7 +98,7 @@ module _ (plan : Plan) (count cycles : ℕ) (items : List Item) (keeps : Keeps p
       (each_at (moves_within count items) p (placed [] items) s.x keeps.within s.at) aims in
       (l.to, ltb-true l.to count l.passes, l.is)
 
-  no_call : (p w f : ℕ) → p < count → w ≡ base + p → Calls code region w f → ⊥
+  pub no_call : (p w f : ℕ) → p < count → w ≡ base + p → Calls code region w f → ⊥
   no_call p w f less at calls =
       let s = here p less in
       tame_calls code w f s.x.inst (tame p s) (ap (λ (i : Inst). called code w i) (same_inst p s w calls.inst at calls.is) ∙ calls.calls)
@@ -187,12 +187,14 @@ module _ (plan : Plan) (count cycles : ℕ) (items : List Item) (keeps : Keeps p
   goes_on : (p d s : ℕ) (t : Option Turning) (x : Stood code base items p) → At plan base p t s → Aims code (base + p) x.x.inst d
       → Onto plan base (come code (base + p) d t x.x.inst) (s + 1)
   goes_on p d s None x at aims =
-      subst (λ (b : Bool). Onto plan base (cond b (record { pc = d; turning = turning_at code (base + p) x.x.inst }) (onward d None)) (s + 1))
+      let begun : Onward = record { pc = d; turning = turning_at code (base + p) x.x.inst } in
+      subst (λ (b : Bool). Onto plan base (cond b begun (onward d None)) (s + 1))
       (loop_same x.x.inst)
       (from_outside (loops x.x.inst) p d s s x refl refl aims
       (ap (outside_by plan items p x.x) (sym at) ∙ each_at (keeps_outside plan items) p (placed [] items) x.x keeps.outside x.at))
   goes_on p d s (Some u) x at aims =
-      subst (λ (b : Bool). Onto plan base (cond b (record { pc = d; turning = turning_at code (base + p) x.x.inst }) (onward d (Some u))) (s + 1))
+      let begun : Onward = record { pc = d; turning = turning_at code (base + p) x.x.inst } in
+      subst (λ (b : Bool). Onto plan base (cond b begun (onward d (Some u))) (s + 1))
       (loop_same x.x.inst)
       (from_inside (loops x.x.inst) p d (s + u.left * plan.turn) s u x refl at.0 at.1 refl aims
       (ap (inside_by plan items p x.x) (sym at.2) ∙ each_at (keeps_inside plan items) p (placed [] items) x.x keeps.inside x.at))
@@ -273,34 +275,25 @@ module _ (plan : Plan) (count cycles : ℕ) (items : List Item) (keeps : Keeps p
       ∙ ap (λ (o : Option ℕ). not (some_sum (sum_in plan.outside p) && some_sum o)) (sym in') ∙ test in
       cc
 
-  equal_at : (p s z : ℕ) (t o : Option Turning) → p < count → At plan base p t s → At plan base p o z → IsFirstTurn code t → IsFirstTurn code o
-      → s ≡ z
+  equal_at : (p s z : ℕ) (t o : Option Turning) → p < count → At plan base p t s → At plan base p o z → IsFirstTurn code t
+      → IsFirstTurn code o → s ≡ z
   equal_at p s z None None less a b first other = some_is s z (sym a ∙ b)
   equal_at p s z (Some u) (Some v) less a b first other =
       let left : u.left ≡ 31 = first_left u a.0 first in
       let right : v.left ≡ 31 = first_left v b.0 other in
-      let same : s + u.left * plan.turn ≡ z + v.left * plan.turn = some_is (s + u.left * plan.turn) (z + v.left * plan.turn) (sym a.2 ∙ b.2) in
+      let same : s + u.left * plan.turn ≡ z + v.left * plan.turn =
+      some_is (s + u.left * plan.turn) (z + v.left * plan.turn) (sym a.2 ∙ b.2) in
       let one : u.left * plan.turn ≡ 31 * plan.turn = ap (λ n. n * plan.turn) left in
       let two : v.left * plan.turn ≡ 31 * plan.turn = ap (λ n. n * plan.turn) right in
       omega (arith, same, one, two)
   equal_at p s z None (Some v) less a b first other = absurd (not_both p s (z + v.left * plan.turn) less a b.2)
   equal_at p s z (Some u) None less a b first other = absurd (not_both p z (s + u.left * plan.turn) less b a.2)
 
-  pub one_sum : (table : Table) (all : List Loop) (w s z : ℕ) → Shares table code region all base w s → Shares table code region all base w z
-      → s ≡ z
+  pub one_sum : (table : Table) (all : List Loop) (w s z : ℕ) → Shares table code region all base w s
+      → Shares table code region all base w z → s ≡ z
   one_sum table all w s z a b =
       let h = along table all base w a.turning a.counts s refl a.path in
       let g = along table all base w b.turning b.counts z refl b.path in
       let same : g.p ≡ h.p = let x = h.place in let y = g.place in omega (arith, x, y) in
       equal_at h.p s z a.turning b.turning (at_within h.p a.turning s h.at) h.at
       (subst (λ (p : ℕ). At plan base p b.turning z) same g.at) a.first_turn b.first_turn
-
--- a body that keeps to a plan
-pub even : (plan : Plan) (count cycles : ℕ) (items : List Item) → Keeps plan count cycles items → IsEven count cycles items
-even plan count cycles items keeps = record {
-  stays = λ code region base w stands so. stays plan count cycles items keeps code region base stands w so;
-  returns = λ table code region base w s loops t k stands so r.
-      returned plan count cycles items keeps code region base stands table loops w s t k so r;
-  one_sum = λ table code region base w s z loops stands a b.
-      one_sum plan count cycles items keeps code region base stands table loops w s z a b;
-}

@@ -13,4 +13,6 @@ pub mod Shapes
 pub mod Moves
 pub mod Plans
 pub mod EvenPaths
+pub mod Causes
+pub mod Even
 pub mod BodyPlans

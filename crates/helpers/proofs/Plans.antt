@@ -1,6 +1,7 @@
 -- A plan of a body: the sum at each place outside its LOOP, and at each place of its LOOP the sum that the last turn has there. A body that
 -- keeps to a plan takes the same cycles on each path.
-use Rattle.std.proofs.Common.{◌≡◌, ℕ, zero, suc, ◌+◌, ◌-◌, ◌*◌, ◌<◌, Bool, true, false, not, cond, ◌&&◌, List, [], ◌∷◌, length, Option, Some, None}
+use Rattle.std.proofs.Common.{◌≡◌, ℕ, zero, suc, ◌+◌, ◌-◌, ◌*◌, ◌<◌, Bool, true, false, not, cond, ◌&&◌, List, [], ◌∷◌, length}
+use Rattle.std.proofs.Common.{Option, Some, None}
 use Rattle.std.proofs.Common.{refl, sym, ap, subst, ◌∙◌, arith, nat_lt, nat_le, suc-mul}
 use Rattle.std.specs.Prelude.{slice_get, option_map, option_and_then, ◌==◌}
 use Rattle.std.specs.List.{list_all}
@@ -73,7 +74,7 @@ keeps_inside plan items p x = inside_by plan items p x (sum_in plan.inside p)
 
 -- ---- sums
 
-sum_is : (n : ℕ) (o : Option ℕ) → is_sum n o ≡ true → o ≡ Some n
+pub sum_is : (n : ℕ) (o : Option ℕ) → is_sum n o ≡ true → o ≡ Some n
 sum_is n None h = absurd (let wrong : false ≡ true = h in cc)
 sum_is n (Some m) h = ap Some (eqb-true m n h)
 
@@ -149,9 +150,12 @@ module _ (plan : Plan) (base : ℕ) (u : Turning) (q b s : ℕ) (first : u.first
       let all = ap (keeps_by plan b q) (sym f) ∙ keeps in
       let outer = and_parts (nat_le plan.first q && nat_lt q plan.end) (is_sum (b + 1) (sum_in plan.inside q)) all in
       let inner = and_parts (nat_le plan.first q) (nat_lt q plan.end) outer.0 in
-      let low : nat_le u.first (base + q) ≡ true = le-leb u.first (base + q) (let l = leb-true plan.first q inner.0 in omega (arith, l, first)) in
-      let high : nat_lt (base + q) u.end ≡ true = lt-ltb (base + q) u.end (let l = ltb-true q plan.end inner.1 in omega (arith, l, end)) in
-      let within : (nat_le u.first (base + q) && nat_lt (base + q) u.end) ≡ true = and_from (nat_le u.first (base + q)) (nat_lt (base + q) u.end) low high in
+      let above = leb-true plan.first q inner.0 in
+      let below = ltb-true q plan.end inner.1 in
+      let low : nat_le u.first (base + q) ≡ true = le-leb u.first (base + q) (omega (arith, above, first)) in
+      let high : nat_lt (base + q) u.end ≡ true = lt-ltb (base + q) u.end (omega (arith, below, end)) in
+      let within : (nat_le u.first (base + q) && nat_lt (base + q) u.end) ≡ true =
+      and_from (nat_le u.first (base + q)) (nat_lt (base + q) u.end) low high in
       let same : b + 1 ≡ s + 1 + u.left * plan.turn = omega (arith, sum) in
       subst (λ (x : Bool). Onto plan base (cond x (record { pc = base + q; turning = Some u }) (record { pc = base + q; turning = None }))
       (s + 1)) (sym within)
