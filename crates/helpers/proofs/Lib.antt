@@ -10,3 +10,9 @@ pub mod Signs
 pub mod Signing
 pub mod Signed
 pub mod Shapes
+pub mod Moves
+pub mod Plans
+pub mod EvenPaths
+pub mod Causes
+pub mod Even
+pub mod BodyPlans

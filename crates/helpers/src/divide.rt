@@ -6,6 +6,7 @@ ghost use Rattle.std.specs.Prelude.{◌≡◌, IfOk, OnOk, ◌++◌};
 ghost use Rattle.prunum.specs.Number.{quot_u, rem_u, quot_s, rem_s};
 ghost use Rattle.helpers.specs.Bodies.{negated, magnitudes, divided, quotient_sign, quotient_moved, back};
 ghost use Rattle.helpers.specs.Numbers.{cycles_of, words_of};
+ghost use Rattle.helpers.specs.Paths.{IsEven};
 ghost use Rattle.helpers.specs.Runs.{Computes};
 ghost use Rattle.helpers.specs.Shapes.{HasShape};
 ghost use Rattle.helpers.specs.declared.helper.Helper.TheVariants.{DivU, RemU, DivS, RemS};
@@ -92,6 +93,7 @@ fn append_signed_end(items: &mut Vec<Item>) -> Result<(), Memory>
 pub fn divu(alloc: Global) -> Result<AsmProgram, Memory>
     ensures computes { IfOk result (Computes quot_u (cycles_of DivU)) }
     ensures shape { IfOk result (HasShape (words_of DivU)) }
+    ensures even { IfOk result (IsEven (words_of DivU) (cycles_of DivU)) }
 {
     let mut items = Vec::new(alloc);
     append(&mut items, &divided())?;
@@ -104,6 +106,7 @@ pub fn divu(alloc: Global) -> Result<AsmProgram, Memory>
 pub fn remu(alloc: Global) -> Result<AsmProgram, Memory>
     ensures computes { IfOk result (Computes rem_u (cycles_of RemU)) }
     ensures shape { IfOk result (HasShape (words_of RemU)) }
+    ensures even { IfOk result (IsEven (words_of RemU) (cycles_of RemU)) }
 {
     let mut items = Vec::new(alloc);
     append(&mut items, &divided())?;
@@ -115,6 +118,7 @@ pub fn remu(alloc: Global) -> Result<AsmProgram, Memory>
 pub fn divs(alloc: Global) -> Result<AsmProgram, Memory>
     ensures computes { IfOk result (Computes quot_s (cycles_of DivS)) }
     ensures shape { IfOk result (HasShape (words_of DivS)) }
+    ensures even { IfOk result (IsEven (words_of DivS) (cycles_of DivS)) }
 {
     let mut items = Vec::new(alloc);
     append(&mut items, &quotient_sign())?;
@@ -129,6 +133,7 @@ pub fn divs(alloc: Global) -> Result<AsmProgram, Memory>
 pub fn rems(alloc: Global) -> Result<AsmProgram, Memory>
     ensures computes { IfOk result (Computes rem_s (cycles_of RemS)) }
     ensures shape { IfOk result (HasShape (words_of RemS)) }
+    ensures even { IfOk result (IsEven (words_of RemS) (cycles_of RemS)) }
 {
     let mut items = Vec::new(alloc);
     append(

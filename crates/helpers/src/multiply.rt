@@ -3,6 +3,7 @@
 ghost use Rattle.std.specs.Prelude.{◌≡◌, IfOk};
 ghost use Rattle.helpers.specs.Bodies.{multiplied};
 ghost use Rattle.helpers.specs.Numbers.{product, cycles_of, words_of};
+ghost use Rattle.helpers.specs.Paths.{IsEven};
 ghost use Rattle.helpers.specs.Runs.{Computes};
 ghost use Rattle.helpers.specs.Shapes.{HasShape};
 ghost use Rattle.helpers.specs.declared.helper.Helper.TheVariants.{Mul};
@@ -35,6 +36,7 @@ fn multiplied() -> [Item; 11]
 pub fn mul(alloc: Global) -> Result<AsmProgram, Memory>
     ensures computes { IfOk result (Computes product (cycles_of Mul)) }
     ensures shape { IfOk result (HasShape (words_of Mul)) }
+    ensures even { IfOk result (IsEven (words_of Mul) (cycles_of Mul)) }
 {
     let mut items = Vec::new(alloc);
     append(&mut items, &multiplied())?;
