@@ -22,7 +22,7 @@ use Rattle.cmean.specs.State.{Run, give, then_with, sure}
 use Rattle.cmean.specs.Expression.{Valued, datum, operand, truth, number_value}
 use Rattle.lowerstate.specs.Held.{Meant, OfInteger, ToPlain, ToVolatile, Home, Held}
 use Rattle.lowerstate.specs.Related.{Fixed, Call, IsCall}
-use Rattle.lowerstate.specs.Piece.{Code, Free, next_register, followed, Evaluates, IsValue, IsDatum, word, register}
+use Rattle.lowerstate.specs.Piece.{Code, Free, next_register, Evaluates, IsValue, IsDatum, word, register}
 use Rattle.lowerstate.specs.Conversion.{integer, AreAlike, IsConversion, extending, conversion_code, not_code}
 use Rattle.lowerstate.proofs.Agree.{wrap-small, wrap-below, signed-below, truth-below}
 use Rattle.lowerstate.proofs.Laws.{written}

@@ -101,6 +101,7 @@ module _ (r : Fixed) (c : Call) where
     paid = let paid = related.paid in omega (arith, paid, most);
     late = let late = related.late in omega (arith, late);
     left = below;
+    done = let done = related.done in omega (arith, done);
   }
 
   -- one step
@@ -147,7 +148,7 @@ late-more most least more steps owed late =
     omega (arith, late, grown)
 
 module _ (r : Fixed) (c : Call) (call : IsCall r c) where
-  runs : (x : Point) (s : State) (m : Counted) → Related r c x s m → running r.program m.state ≡ c.ops
+  pub runs : (x : Point) (s : State) (m : Counted) → Related r c x s m → running r.program m.state ≡ c.ops
   runs x s m related = ap (λ f. kinds_of_function (function_at r.program f)) related.function ∙ call.ops
 
   pub op-at : (x : Point) (s : State) (m : Counted) (k : OpKind) → Related r c x s m → slice_get c.ops x.place ≡ Some k
@@ -224,6 +225,7 @@ module _ (r : Fixed) (c : Call) (call : IsCall r c) where
       late = late-more r.most m.least (least_at (running r.program m.state) m.state.frame.place
           (slice_get (running r.program m.state) m.state.frame.place)) s.steps x.owed related.late;
       left = related.left;
+      done = related.done;
     },
   )
     where

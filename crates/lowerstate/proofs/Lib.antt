@@ -9,3 +9,5 @@ pub mod Shown
 pub mod Room
 pub mod Variables
 pub mod Converted
+pub mod Turns
+pub mod Jumps

@@ -26,7 +26,7 @@ use Rattle.lowerstate.specs.Counted.{counted}
 use Rattle.lowerstate.specs.Held.{Meant, OfInteger, Home, Held}
 use Rattle.lowerstate.specs.Related.{Fixed, Call, IsCall}
 use Rattle.lowerstate.specs.Stands.{Ends}
-use Rattle.lowerstate.specs.Piece.{Code, Free, behind, joined, next_register, followed, least_hand, onwards, Given, Evaluates}
+use Rattle.lowerstate.specs.Piece.{Code, Free, behind, joined, next_register, least_hand, onwards, Given, Evaluates}
 use Rattle.lowerstate.specs.Piece.{IsValue, IsDatum, IsNumber, word, register}
 use Rattle.lowerstate.specs.Codes.{constant_code, unary_code, pair_code, swapped_code, comparison_code}
 use Rattle.lowerstate.specs.Operators.{operation, comparing, is_swapped}
@@ -103,7 +103,7 @@ module _ (r : Fixed) (c : Call) (call : IsCall r c) where
           Number n,
           refl,
           adjust r c _ (onwards x (constant_code f n) 0 hand 59 (word sign) (Number n)) s done.0 refl (omega arith)
-              (omega arith) done.2 done.2.kept,
+              (omega arith) (omega arith) done.2 done.2.kept,
         ));
   }
 

@@ -92,7 +92,7 @@ module _ (r : Fixed) (c : Call) (call : IsCall r c) {A B C : Type 0} (Is : A →
           kept = record { register = next_register f code; meant = w; datum = new.1 } ∷ x.kept;
           hand = hand + left;
         }) (onwards x all (nodes + others) hand left w new.1) s done.0
-            (let long = one-longer code.ops k in omega (arith, long, more)) (omega arith) (omega arith) done.2 done.2.kept,
+            (let long = one-longer code.ops k in omega (arith, long, more)) (omega arith) (omega arith) (omega arith) done.2 done.2.kept,
       )))
 
   b-ready : Evaluates r c f a Is t run nodes (least_hand + spare) → c.variables ≤ f.register → (x : Point) (hand : ℕ) (d : Datum)

@@ -27,11 +27,11 @@ below-more (k ∷ ks) p q more below =
     (let first = below.0 in omega (arith, first, more), below-more ks p q more below.1)
 
 module _ (r : Fixed) (c : Call) where
-  -- less may be said to be in hand, and more to be owed
-  pub adjust : (x y : Point) (s : State) (m : Counted) → x.place ≡ y.place → y.hand ≤ x.hand → x.owed ≤ y.owed
+  -- less may be said to be in hand and to be done, and more to be owed
+  pub adjust : (x y : Point) (s : State) (m : Counted) → x.place ≡ y.place → y.hand ≤ x.hand → x.owed ≤ y.owed → y.steps ≤ x.steps
       → (related : Related r c x s m) → AllByRecursion (IsKept r (homes_with c related.later) m.state.frame.registers) y.kept
       → Related r c y s m
-  adjust x y s m place hand owed related kept = record {
+  adjust x y s m place hand owed fewer related kept = record {
     later = related.later;
     place = related.place ∙ place;
     function = related.function;
@@ -46,6 +46,7 @@ module _ (r : Fixed) (c : Call) where
     paid = let paid = related.paid in omega (arith, paid, hand);
     late = let late = related.late in omega (arith, late, owed);
     left = related.left;
+    done = let done = related.done in omega (arith, done, fewer);
   }
 
   -- what a run gives is given again as something else, in the same register
@@ -76,7 +77,7 @@ module _ (r : Fixed) (c : Call) where
             new.1,
             new.3,
             adjust (onwards x code nodes hand back t d) (onwards x code nodes hand back u new.1) s m refl (omega arith) (omega arith)
-                related
+                (omega arith) related
                 ((related.kept.0.0, related.kept.0.1, new.4), related.kept.1),
           ))
 
@@ -109,7 +110,7 @@ module _ (r : Fixed) (c : Call) where
             d,
             is,
             adjust (stepped (onwards x code nodes hand back t d) (hand + node_back)) (onwards x code (nodes + 1) hand node_back t d)
-                s m refl (omega arith) (omega arith) behind behind.kept,
+                s m refl (omega arith) (omega arith) (omega arith) behind behind.kept,
           ))
 
   -- less may be said to be left
@@ -124,7 +125,7 @@ module _ (r : Fixed) (c : Call) where
           on.0,
           on.1,
           adjust (onwards x code nodes hand back t on.0) (onwards x code nodes hand left t on.0) s m refl (omega (arith, few))
-              (omega arith) on.2 on.2.kept,
+              (omega arith) (omega arith) on.2 on.2.kept,
         ))
         (λ cause s m ends. ends) (run r.budget s) m (first.does x hand s m stands ready related);
   }
@@ -189,5 +190,5 @@ module _ (r : Fixed) (c : Call) (call : IsCall r c) where
               hand = hand + left;
             })
                 (onwards x (followed f code k (meant_width u)) nodes hand left u new.1) s done.0
-                (let long = one-longer code.ops k in omega (arith, long)) (omega arith) (omega arith) done.2 done.2.kept,
+                (let long = one-longer code.ops k in omega (arith, long)) (omega arith) (omega arith) (omega arith) done.2 done.2.kept,
           )))

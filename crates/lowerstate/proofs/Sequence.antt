@@ -15,7 +15,8 @@ use Rattle.lowerstate.proofs.Pieces.{below-more, adjust}
 module _ (r : Fixed) (c : Call) {A B : Type 0} (Is : A → Datum → Type 0) (Js : B → Datum → Type 0)
     (f : Free) (a b : Code) (t u : Meant) (run : Run A) (second : Run B) (nodes others spare back : ℕ) where
   abbrev between : Point → ℕ → Point
-  between x hand = record { place = x.place + length a.ops; kept = x.kept; hand = hand + (least_hand + spare); owed = x.owed + nodes }
+  between x hand =
+      record x { place = x.place + length a.ops; hand = hand + (least_hand + spare); owed = x.owed + nodes }
 
   a-place : (place : ℕ) → IsIn c f (joined a b) place → IsIn c f a place
   a-place place stands = record {
@@ -46,7 +47,8 @@ module _ (r : Fixed) (c : Call) {A B : Type 0} (Is : A → Datum → Type 0) (Js
       → Does r (Given r c (joined a b) Js u (nodes + others) (spare + back) x hand) (second r.budget s) m
   second-does then' x hand i s m stands ready at =
       let related : Related r c (between x hand) s m =
-      adjust r c (onwards x a nodes hand (least_hand + spare) t at.0) (between x hand) s m refl (omega arith) (omega arith) at.2 at.2.kept.1
+      adjust r c (onwards x a nodes hand (least_hand + spare) t at.0) (between x hand) s m refl (omega arith) (omega arith)
+      (omega arith) at.2 at.2.kept.1
       in
       simulates-weaker (counted r.program r.addresses) (Ends r) (Given r c b Js u others back (between x hand) (hand + spare))
       (Given r c (joined a b) Js u (nodes + others) (spare + back) x hand) (Ends r)
@@ -55,7 +57,7 @@ module _ (r : Fixed) (c : Call) {A B : Type 0} (Is : A → Datum → Type 0) (Js
         on.1,
         adjust r c (onwards (between x hand) b others (hand + spare) back u on.0)
             (onwards x (joined a b) (nodes + others) hand (spare + back) u on.0) s m
-            (let more = length-append a.ops b.ops in omega (arith, more)) (omega arith) (omega arith) on.2 on.2.kept,
+            (let more = length-append a.ops b.ops in omega (arith, more)) (omega arith) (omega arith) (omega arith) on.2 on.2.kept,
       ))
       (λ cause s m ends. ends)
       (second r.budget s) m

@@ -6,7 +6,6 @@ use Rattle.behaviour.proofs.SimulatesLemmas.{simulates-here, simulates-from}
 use Rattle.prutrace.specs.declared.event.Event.{Event}
 use Rattle.midcode.specs.declared.op.OpKind.{OpKind}
 use Rattle.midcode.specs.Cost.{charge}
-use Rattle.midcode.specs.Machine as machine
 use Rattle.midcode.specs.Meaning.{running, effect, charged}
 use Rattle.cmean.specs.State.{State, showing, change, show}
 use Rattle.lowerstate.specs.Counted.{Counted, counted, least_at}
@@ -41,6 +40,7 @@ module _ (r : Fixed) (c : Call) (call : IsCall r c) where
     late = late-more r.most m.least (least_at (running r.program m.state) m.state.frame.place
         (slice_get (running r.program m.state) m.state.frame.place)) s.steps x.owed related.late;
     left = related.left;
+    done = related.done;
   }
 
   -- an event with the number of the next step

@@ -1,13 +1,13 @@
 -- Locals that are registers: what they hold, and what is assigned to them.
-use Rattle.std.proofs.Common.{◌≡◌, ℕ, zero, ◌+◌, ◌<◌, ◌≤◌, ◌==◌, Bool, true, false, inl, inr, if◌then◌else◌, List, [], ◌∷◌, ◌++◌, length}
+use Rattle.std.proofs.Common.{◌≡◌, ℕ, zero, ◌+◌, ◌<◌, ◌≤◌, ◌==◌, Bool, true, false, inl, inr, List, [], ◌∷◌, ◌++◌, length}
 use Rattle.std.proofs.Common.{refl, sym, subst, ap, ◌∙◌, arith, Option, Some, None, slice_get, slice_set}
 use Rattle.std.specs.List.{AllByRecursion}
 use Rattle.std.proofs.lemmas.Bool.{ne_eqb, eqb-true, eqb-false, cases_Bool}
-use Rattle.std.proofs.lemmas.Option.{same_Some, slice_get_within}
+use Rattle.std.proofs.lemmas.Option.{slice_get_within}
 use Rattle.behaviour.specs.Ran.{Done, and_then}
 use Rattle.behaviour.specs.Machine.{Reaches}
 use Rattle.behaviour.proofs.SimulatesLemmas.{simulates-here, simulates-from, bind}
-use Rattle.prunum.specs.Number.{wrap, bit_count}
+use Rattle.prunum.specs.Number.{wrap}
 use Rattle.prunum.specs.declared.width.Width.{Width}
 use Rattle.csyn.specs.declared.span.Span.{Span}
 use Rattle.cprogram.specs.declared.access.Access.{Access}
@@ -20,7 +20,7 @@ use Rattle.midcode.specs.Meaning.{running, width_of, charged}
 use Rattle.cmean.specs.declared.undefined.UndefinedCause.TheVariants.{Unset, EndedCall}
 use Rattle.cmean.specs.Datum.{Datum}
 use Rattle.cmean.specs.Pointer.{unless_ended}
-use Rattle.cmean.specs.State.{State, Run, Leaves, Object, give, then_with, then_do, node, tick, given, is_alive, leaves_of, with_leaves}
+use Rattle.cmean.specs.State.{State, Run, Leaves, Object, then_with, node, tick, given, is_alive, leaves_of, with_leaves}
 use Rattle.cmean.specs.Access.{Target, load, leaf_value}
 use Rattle.cmean.specs.Expression.{valued, both, whole, assign}
 use Rattle.lowerstate.specs.Counted.{Counted, counted, least_at}
@@ -136,6 +136,7 @@ module _ (r : Fixed) (c : Call) (call : IsCall r c) (k q : ℕ) (t : Meant) (hom
       late = late-more r.most m.least (least_at (running r.program m.state) m.state.frame.place
           (slice_get (running r.program m.state) m.state.frame.place)) s.steps x.owed related.late;
       left = related.left;
+      done = related.done;
     },
   )
     where
@@ -219,7 +220,7 @@ module _ (r : Fixed) (c : Call) (call : IsCall r c) (k q : ℕ) (t : Meant) (hom
           (simulates-here (counted r.program r.addresses) (Ends r) D (Done (Some d) s) done.0 (
             d,
             refl,
-            adjust r c _ (onwards x (copy_code (meant_width t) q f) 0 hand 57 t d) s done.0 refl (omega arith) (omega arith) done.2
+            adjust r c _ (onwards x (copy_code (meant_width t) q f) 0 hand 57 t d) s done.0 refl (omega arith) (omega arith) (omega arith) done.2
                 done.2.kept,
           ))
 
@@ -281,7 +282,7 @@ module _ (r : Fixed) (c : Call) (call : IsCall r c) (k q : ℕ) (t : Meant) (hom
             refl,
             adjust r c (record (y d) { place = x.place + length a.ops + 1; hand = hand + left })
                 (onwards x (assign_code q a) (nodes + 1) hand left t d) (holding d s) done.0
-                (let long = one-longer a.ops code in omega (arith, long)) (omega arith) (omega arith) done.2 done.2.kept,
+                (let long = one-longer a.ops code in omega (arith, long)) (omega arith) (omega arith) (omega arith) done.2 done.2.kept,
           ))
 
       few : (d : Datum) → (y d).owed ≤ r.most

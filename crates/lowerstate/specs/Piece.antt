@@ -6,7 +6,6 @@ use Rattle.prunum.specs.declared.width.Width.TheVariants.{B4}
 use Rattle.csyn.specs.declared.specifiers.Sign.{Sign}
 use Rattle.midcode.specs.declared.register.VReg.{VReg}
 use Rattle.midcode.specs.declared.op.OpKind.{OpKind}
-use Rattle.midcode.specs.declared.op.OpKind.TheVariants as op
 use Rattle.cmean.specs.Datum.{Datum, Number}
 use Rattle.cmean.specs.State.{State, Run}
 use Rattle.lowerstate.specs.Counted.{Counted}
@@ -85,6 +84,7 @@ onwards x code nodes hand back t d = record {
   kept = record { register = code.result; meant = t; datum = d } ∷ x.kept;
   hand = hand + back;
   owed = x.owed + nodes;
+  steps = x.steps;
 }
 
 -- The run has given the value of a datum, which is kept.

@@ -1,16 +1,22 @@
 -- What the pieces of code do, a law for each way in which an expression is made.
-use Rattle.std.specs.Prelude.{ℕ, ◌≡◌, ◌+◌, ◌^◌, ◌<◌, ◌≤◌, ◌++◌, not, [], ◌∷◌, Some, slice_get}
+use Rattle.std.specs.Prelude.{ℕ, ◌≡◌, ◌+◌, ◌^◌, ◌<◌, ◌≤◌, List, ◌++◌, not, [], ◌∷◌, Some, None, slice_get, take, nat_lt, if◌then◌else◌}
 use Rattle.behaviour.specs.Ran.{Done}
+use Rattle.behaviour.specs.Machine.{Reaches}
 use Rattle.prutrace.specs.declared.event.Event.{Event}
 use Rattle.csyn.specs.declared.specifiers.Sign.{Sign}
 use Rattle.csyn.specs.declared.operator.BinaryOperator.{BinaryOperator}
 use Rattle.csyn.specs.declared.operator.ComparisonOperator.{ComparisonOperator}
+use Rattle.midcode.specs.declared.register.VReg.{VReg}
+use Rattle.midcode.specs.declared.register.Label.{Label}
+use Rattle.midcode.specs.declared.op.Test.{Test}
 use Rattle.midcode.specs.declared.op.OpKind.{OpKind}
+use Rattle.midcode.specs.declared.op.OpKind.TheVariants as op
 use Rattle.midcode.specs.declared.op.UnaryOp.TheVariants as one
 use Rattle.midcode.specs.declared.op.BinaryOp.TheVariants as two
 use Rattle.midcode.specs.Cost.{charge}
 use Rattle.midcode.specs.Machine as machine
-use Rattle.midcode.specs.Meaning.{effect, charged}
+use Rattle.midcode.specs.Function.{standing}
+use Rattle.midcode.specs.Meaning.{effect, charged, standing_at, is_met}
 use Rattle.cprogram.specs.declared.value.UnaryOperator.TheVariants.{Minus, Complement}
 use Rattle.csyn.specs.declared.span.Span.{Span}
 use Rattle.cprogram.specs.declared.access.Access.{Access}
@@ -19,7 +25,7 @@ use Rattle.cmean.specs.Datum.{Datum, unary, binary, comparison, leftmost_bit, tr
 use Rattle.cmean.specs.State.{State, Run, give, with_state, then_with, then_do, node, show}
 use Rattle.cmean.specs.Access.{Target, load}
 use Rattle.cmean.specs.Expression.{Valued, both, number_value, operand, truth, valued, whole, assign}
-use Rattle.lowerstate.specs.Counted.{Counted}
+use Rattle.lowerstate.specs.Counted.{Counted, counted, least_of}
 use Rattle.lowerstate.specs.Held.{Meant, meant_width, InRegister}
 use Rattle.lowerstate.specs.Related.{Fixed, Call, Point, Related}
 use Rattle.lowerstate.specs.Stands.{Does}
@@ -31,6 +37,19 @@ use Rattle.lowerstate.specs.Codes.{constant_code, unary_code, pair_code, compari
 -- an event is shown and the operation behind is next
 abbrev pub shown_to : Event → machine.State → machine.State
 shown_to e s = record s { events = s.events ++ e ∷ []; frame = record s.frame { place = s.frame.place + 1 } }
+
+-- the operation at another place is next
+abbrev pub gone_to : ℕ → machine.State → machine.State
+gone_to place s = record s { frame = record s.frame { place = place } }
+
+-- Nothing is owed behind an operation that is an instruction at the least.
+abbrev pub owed_behind : List OpKind → Point → OpKind → ℕ
+owed_behind ops x k = if nat_lt 0 (least_of (standing (take x.place ops)) k) then 0 else x.owed
+
+-- The machine does an operation, and comes to a place of the function that runs.
+abbrev pub Moved : Fixed → Call → Point → OpKind → ℕ → ℕ → State → Counted → Type 0
+Moved r c x k place hand s m = (m' : Counted) × Reaches (counted r.program r.addresses) m m'
+    × Related r c (record x { place = place; hand = hand; owed = owed_behind c.ops x k }) s m'
 
 -- the place of a local, by its number
 abbrev pub local_place : ℕ → Run Target
@@ -125,3 +144,22 @@ module _ (r : Fixed) (c : Call) where
       → effect r.program r.addresses k (charged k m.state) ≡ Done tt (shown_to e (charged k m.state))
       → charge k + hand ≤ x.hand
       → Does r (λ _. Related r c (record x { place = x.place + 1; hand = hand })) (show e r.budget s) m
+
+  -- ---- which operation is next
+
+  module _ (x : Point) (s : State) (m : Counted) (hand : ℕ) where
+    abbrev pub LabelLaw : Type 0
+    LabelLaw = (l : Label) → x.owed ≤ r.most → Related r c x s m → slice_get c.ops x.place ≡ Some (op.Label l) → hand ≤ x.hand
+        → Moved r c x (op.Label l) (x.place + 1) hand s m
+
+    abbrev pub JumpLaw : Type 0
+    JumpLaw = (l : Label) → x.owed ≤ r.most → Related r c x s m → slice_get c.ops x.place ≡ Some (op.Jump l) → 1 + hand ≤ x.hand
+        → Moved r c x (op.Jump l) (standing_at c.ops l.0) hand s m
+
+    -- one that carries no turns
+    abbrev pub BranchLaw : Type 0
+    BranchLaw = (left : VReg) (test : Test) (v right : ℕ) (to : Label) → x.owed ≤ r.most → Related r c x s m
+        → slice_get c.ops x.place ≡ Some (op.Branch left test right to None) → m.state.frame.registers left.0 ≡ Some v
+        → charge (op.Branch left test right to None) + hand ≤ x.hand
+        → Moved r c x (op.Branch left test right to None)
+        (if is_met test v right then standing_at c.ops to.0 else x.place + 1) hand s m

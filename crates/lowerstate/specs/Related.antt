@@ -59,6 +59,7 @@ pub record Point : Type 0 where
   pub kept : List Kept  -- the values on the way
   pub hand : ℕ  -- cycles that the steps so far have paid for and that are still to be spent
   pub owed : ℕ  -- steps since the last solid operation, at the most
+  pub steps : ℕ  -- steps that are done, at the least
 
 -- ---- related states
 
@@ -115,7 +116,8 @@ module _ (r : Fixed) where
     pub paid : m.state.charge + 100 + x.hand ≤ 512 * s.steps
     pub late : s.steps ≤ r.most * m.least + x.owed
     pub left : s.steps ≤ r.budget
+    pub done : x.steps ≤ s.steps
 
--- behind a step: it pays 512 cycles, and is one more since the last solid operation
+-- behind a step: it pays 512 cycles, is one more since the last solid operation, and is done
 abbrev pub stepped : Point → ℕ → Point
-stepped x hand = record x { hand = hand; owed = x.owed + 1 }
+stepped x hand = record x { hand = hand; owed = x.owed + 1; steps = x.steps + 1 }

@@ -4,4 +4,4 @@
 
 mod theorems;
 
-pub use theorems::{acts, constants, conversions, events, locals, operators, sequences};
+pub use theorems::{acts, constants, conversions, events, locals, moves, operators, sequences};

@@ -4,6 +4,7 @@ ghost use Rattle.lowerstate.specs.Counted.{Counted};
 ghost use Rattle.lowerstate.specs.Related.{Fixed, Call, IsCall, Point, Related, stepped};
 ghost use Rattle.lowerstate.specs.Stands.{IsEven, Does};
 ghost use Rattle.lowerstate.specs.PieceLaws.{ConstantLaw, MinusLaw, ComplementLaw, BinaryLaw, ComparisonLaw, LeftmostLaw};
+ghost use Rattle.lowerstate.specs.PieceLaws.{LabelLaw, JumpLaw, BranchLaw};
 ghost use Rattle.lowerstate.specs.PieceLaws.{NodeLaw, SequenceLaw, EventLaw, LocalLaw, AssignLaw, ConversionLaw, NotLaw};
 
 /// What the meaning's acts do to related states.
@@ -53,4 +54,11 @@ pub fn locals()
 pub fn conversions()
     ensures conversion { (r : Fixed) (c : Call) → IsCall r c → ConversionLaw r c }
     ensures negation { (r : Fixed) (c : Call) → IsCall r c → NotLaw r c }
+{}
+
+/// Operations whose only effect is which operation is next: behind one that is an instruction at the least nothing is owed.
+pub fn moves()
+    ensures label { (r : Fixed) (c : Call) → IsCall r c → (x : Point) (s : State) (m : Counted) (hand : ℕ) → LabelLaw r c x s m hand }
+    ensures jump { (r : Fixed) (c : Call) → IsCall r c → (x : Point) (s : State) (m : Counted) (hand : ℕ) → JumpLaw r c x s m hand }
+    ensures branch { (r : Fixed) (c : Call) → IsCall r c → (x : Point) (s : State) (m : Counted) (hand : ℕ) → BranchLaw r c x s m hand }
 {}
