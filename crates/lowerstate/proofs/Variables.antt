@@ -220,8 +220,8 @@ module _ (r : Fixed) (c : Call) (call : IsCall r c) (k q : ℕ) (t : Meant) (hom
           (simulates-here (counted r.program r.addresses) (Ends r) D (Done (Some d) s) done.0 (
             d,
             refl,
-            adjust r c _ (onwards x (copy_code (meant_width t) q f) 0 hand 57 t d) s done.0 refl (omega arith) (omega arith) (omega arith) done.2
-                done.2.kept,
+            adjust r c _ (onwards x (copy_code (meant_width t) q f) 0 hand 57 t d) s done.0 refl
+                (omega arith) (omega arith) (omega arith) done.2 done.2.kept,
           ))
 
       few-owed : x.owed ≤ r.most
