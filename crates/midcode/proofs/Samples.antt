@@ -456,6 +456,17 @@ main_with_argument = refl
 main_missing : is_whole (record (program (marked []) (op.Return None ∷ [])) { main = 2 }) ≡ false
 main_missing = refl
 
+abbrev giving : Signature
+giving = record { params = replicate 8 B4; count = 0; result = Some B4; few = lit≤ tt }
+
+main_with_result : is_whole (record (program (marked []) (op.Return None ∷ [])) {
+  functions = function giving (marked []) ∷ function byte_to_word (op.Return None ∷ []) ∷ [];
+}) ≡ false
+main_with_result = refl
+
+function_without_operations : is_whole (program (marked []) []) ≡ false
+function_without_operations = refl
+
 abbrev with_object : List FirstPart → Bool
 with_object parts =
     is_whole (record (program (marked []) (op.Return None ∷ [])) { objects = record { bytes = 8; first = parts } ∷ [] })
@@ -480,6 +491,9 @@ address_in_a_byte = refl
 
 register_unknown : fit (op.Copy (v 4) (v 0)) ≡ false
 register_unknown = refl
+
+register_unknown_read : fit (op.Copy (v 0) (v 4)) ≡ false
+register_unknown_read = refl
 
 label_unknown : fit (op.Jump (l 3)) ≡ false
 label_unknown = refl
