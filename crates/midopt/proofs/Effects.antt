@@ -149,13 +149,17 @@ module _ (q p : Program) (a : List ℕ) (e : Places) (edit : IsEdit q p e) where
       charge = at.charge;
     }
 
-    pub set-alike : (r : VReg) (v v' : ℕ) (s t : State) → v' ≡ v → At s t → Alike At (set q r v s) (set p r v' t)
-    set-alike r v v' s t is at =
+    -- numbers that are the same cut to the register
+    set-cut : (r : VReg) (v v' : ℕ) (s t : State) → wrap (width_of q s r) v' ≡ wrap (width_of q s r) v → At s t
+        → Alike At (set q r v s) (set p r v' t)
+    set-cut r v v' s t is at =
         inr (
           refl,
-          put-at r (wrap (width_of q s r) v) (wrap (width_of p t r) v') s t
-              (ap (λ w. wrap w v') (width-same r s t at) ∙ ap (wrap (width_of q s r)) is) at,
+          put-at r (wrap (width_of q s r) v) (wrap (width_of p t r) v') s t (ap (λ w. wrap w v') (width-same r s t at) ∙ is) at,
         )
+
+    pub set-alike : (r : VReg) (v v' : ℕ) (s t : State) → v' ≡ v → At s t → Alike At (set q r v s) (set p r v' t)
+    set-alike r v v' s t is at = set-cut r v v' s t (ap (wrap (width_of q s r)) is) at
 
     -- ---- places
 
@@ -188,6 +192,11 @@ module _ (q p : Program) (a : List ℕ) (e : Places) (edit : IsEdit q p e) where
                 (ap (λ n. n + 1) at.frame.place ∙ sym (edit.next f x kept) ∙ ap (λ n. e.moved f (n + 1)) (sym at.frame.old_place)),
           ),
         )
+
+    pub set-cut-on : (r : VReg) (v v' : ℕ) (s t : State) → wrap (width_of q s r) v' ≡ wrap (width_of q s r) v → At s t
+        → Alike (Like e) (in_turn (set q r v) (λ _. onwards) s) (in_turn (set p r v') (λ _. onwards) t)
+    set-cut-on r v v' s t is at =
+        then-alike At (Like e) (set q r v s) (set p r v' t) (λ _. onwards) (λ _. onwards) (set-cut r v v' s t is at) (λ _. onwards-alike)
 
     pub set-on : (r : VReg) (v v' : ℕ) (s t : State) → v' ≡ v → At s t
         → Alike (Like e) (in_turn (set q r v) (λ _. onwards) s) (in_turn (set p r v') (λ _. onwards) t)

@@ -7,6 +7,7 @@ pub mod Lists
 pub mod Whole
 pub mod Removed
 pub mod MarkLemmas
+pub mod FoldedLemmas
 pub mod SweepLemmas
 pub mod Search
 pub mod Samples

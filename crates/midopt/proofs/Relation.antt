@@ -7,7 +7,7 @@ use Rattle.midcode.specs.Function.{Function, kinds}
 use Rattle.midcode.specs.Cost.{size}
 use Rattle.midcode.specs.Program.{Program}
 use Rattle.midopt.specs.Weighed.{Weighed}
-use Rattle.midopt.specs.Better.{IsShown, StandsAs, is_undefined, is_wild, IsBetterRun, IsThinner, Both, IsBetter, placed, IsBetterFunction}
+use Rattle.midopt.specs.Better.{IsShown, StandsAs, is_undefined, is_wild, IsBetterRun, IsThinner, Both, IsBetter, placed, IsBetterFunction, AreBetter}
 
 -- ---- runs
 
@@ -122,6 +122,7 @@ better-same p = record {
   main = refl;
   functions = λ f. both-same (slice_get p.functions f);
   valid = λ h. h;
+  whole = λ h. h;
   runs = λ w a values acts. run-same _;
 }
 
@@ -133,6 +134,7 @@ better-more p q r pq qr = record {
   functions = λ f. both-more (slice_get p.functions f) (slice_get q.functions f) (slice_get r.functions f)
       (pq.functions f) (qr.functions f);
   valid = λ h. qr.valid (pq.valid h);
+  whole = λ h. qr.whole (pq.whole h);
   runs = λ w a values acts. run-more _ _ _ (pq.runs w a values acts) (qr.runs w a values acts);
 }
 
@@ -167,6 +169,21 @@ function-more f g h fg gh = record {
       let rest = gh.everywhere (placed p i g) i (get-set p.functions i f g at) in
       better-more p (placed p i g) (placed p i h) first
       (subst (λ fs. IsBetter (placed p i g) (record p { functions = fs })) (set-again p.functions i g h) rest);
+}
+
+-- ---- all functions
+
+pub all-same : (fs : List Function) → AreBetter fs fs
+all-same fs = record {
+  everywhere = λ p is. subst (λ gs. IsBetter p (record p { functions = gs })) is (better-same p);
+}
+
+pub all-more : (fs gs : List Function) (i : ℕ) (f g : Function) → AreBetter fs gs → slice_get gs i ≡ Some f → IsBetterFunction f g
+    → AreBetter fs (slice_set gs i g)
+all-more fs gs i f g first at rest = record {
+  everywhere = λ p is.
+      better-more p (record p { functions = gs }) (record p { functions = slice_set gs i g }) (first.everywhere p is)
+      (rest.everywhere (record p { functions = gs }) i at);
 }
 
 pub ruleset relation_rules = (better-same, better-more, function-same, function-more)

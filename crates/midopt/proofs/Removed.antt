@@ -24,9 +24,9 @@ use Rattle.midopt.proofs.Runs.{Serves, Serve, serves-itself, serves-better}
 use Rattle.midopt.proofs.Lists.{closed, closed-first, closed-next, closed-skipped, closed-apart}
 use Rattle.midopt.proofs.Lists.{labels-closed, get-closed, get-taken, take-closed}
 use Rattle.midopt.proofs.Lists.{skeleton-closed, size-closed, any-closed}
-use Rattle.midopt.proofs.Whole.{removed-valid}
+use Rattle.midopt.proofs.Whole.{removed-valid, removed-whole}
 
-get-other : {A : Type 0} (l : List A) (n g : ℕ) (y : A) → (g ≡ n → ⊥) → slice_get (slice_set l n y) g ≡ slice_get l g
+pub get-other : {A : Type 0} (l : List A) (n g : ℕ) (y : A) → (g ≡ n → ⊥) → slice_get (slice_set l n y) g ≡ slice_get l g
 get-other [] n g y other = refl
 get-other (z ∷ l) zero zero y other = absurd (other refl)
 get-other (z ∷ l) zero (suc g) y other = refl
@@ -249,7 +249,8 @@ module _ (q : Program) (n : ℕ) (f : Function) (at : slice_get q.functions n �
     regions = refl;
     main = refl;
     functions = λ g. functions-by g (g == n) refl;
-    valid = λ valid. removed-valid q n f at front back node o whole value valid;
+    valid = λ valid. removed-valid f front back node o whole value q n at valid;
+    whole = λ was. removed-whole f front back node o whole value q n at was;
     runs = λ w a values acts. removed-runs a w acts values;
   }
 

@@ -15,11 +15,12 @@ use Rattle.midcode.specs.Operation.{reads, writes, is_value}
 use Rattle.midcode.specs.Function.{Function, kinds, kinds_of, fits, IsValidFunction, IsNode, AtNode}
 use Rattle.midcode.proofs.Valid.{parts-of}
 use Rattle.midopt.specs.Better.{IsBetterFunction}
-use Rattle.midopt.specs.Tidy.{is_register, are_reading, is_unread, is_idle, HasNoIdle}
+use Rattle.midopt.specs.Tidy.{is_register, are_reading, is_unread, is_idle, HasNoIdle, IsFolded}
 use Rattle.midopt.specs.Marks.{marks_of, value_to, is_unmarked}
 use Rattle.midopt.proofs.Relation.{function-same, function-more}
 use Rattle.midopt.proofs.Lists.{any-closed}
 use Rattle.midopt.proofs.Removed.{removed-function}
+use Rattle.midopt.proofs.FoldedLemmas.{removed-folded}
 use Rattle.midopt.proofs.MarkLemmas.{first-some, first-none, first-node, empty-list, unmarked-unread, marked-read}
 
 -- An operation that was idle is so where the registers that no operation read are read by none.
@@ -69,6 +70,7 @@ pub record Swept (old now : Function) (at : Option ℕ) (index : ℕ) (found : B
   pub some : found ≡ true → length now.nodes < length old.nodes
   pub few : length now.nodes ≤ length old.nodes
   pub none : found ≡ false → (now ≡ old) × (list_all (is_kept old) (kinds_of front) ≡ true)
+  pub folded : IsFolded (kinds old) → IsFolded (kinds now)
 
 pub swept-first : (f : Function) (at : Option ℕ) → at ≡ first_id f.nodes → IfSome at (IsNode f.nodes) → Swept f f at 0 false
 swept-first f at is node = record {
@@ -83,6 +85,7 @@ swept-first f at is node = record {
   some = λ h. absurd (true≢false (sym h));
   few = omega arith;
   none = λ h. (refl, refl);
+  folded = λ h. h;
 }
 
 module _ (old now : Function) (node index : ℕ) (found : Bool) (w : Swept old now (Some node) index found) where
@@ -121,6 +124,7 @@ module _ (old now : Function) (node index : ℕ) (found : Bool) (w : Swept old n
             (and_from (is_kept old o.kind) true
             (ap (λ j. is_kept old j.kind) (sym (get w.front o rest stands)) ∙ ap not marked) refl),
       );
+      folded = w.folded;
     }
 
     module _ (un : is_unmarked (marks old) (value_to k.kind) ≡ true) where
@@ -152,6 +156,10 @@ module _ (old now : Function) (node index : ℕ) (found : Bool) (w : Swept old n
             some = λ h. shorter;
             few = omega (arith, shorter);
             none = λ h. absurd (true≢false h);
+            folded = λ h.
+                subst IsFolded (sym (map-append (λ n. n.1.kind) w.front rest))
+                (removed-folded (kinds_of w.front) o.kind (kinds_of rest) (ap (λ ks. is_idle ks o.kind) (sym old-kinds) ∙ here)
+                (subst IsFolded old-kinds (w.folded h)));
           })
         where
           here : is_idle (kinds now) o.kind ≡ true

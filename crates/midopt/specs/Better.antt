@@ -1,5 +1,5 @@
 -- When a program may stand for another.
-use Rattle.std.specs.Prelude.{◌≡◌, ℕ, ◌≤◌, ◌⊎◌, Bool, true, false, List, Option, Some, None}
+use Rattle.std.specs.Prelude.{◌≡◌, ℕ, ◌≤◌, ◌⊎◌, Bool, true, false, IsTrue, List, Option, Some, None}
 use Rattle.std.specs.Prelude.{slice_get, slice_set, sum_by}
 use Rattle.std.specs.List.{list_any}
 use Rattle.behaviour.specs.declared.stop.Stop.{Stop}
@@ -8,7 +8,7 @@ use Rattle.behaviour.specs.Ran.{Ran, Done, Stopped}
 use Rattle.midcode.specs.Machine.{Wild}
 use Rattle.midcode.specs.Function.{Function, kinds}
 use Rattle.midcode.specs.Structure.{skeleton}
-use Rattle.midcode.specs.Program.{Program, IsValidProgram}
+use Rattle.midcode.specs.Program.{Program, is_whole, IsValidProgram}
 use Rattle.midcode.specs.Cost.{size, multiplies, divides}
 use Rattle.midopt.specs.Weighed.{Weight, IsOfActs, Weighed, run}
 
@@ -69,6 +69,7 @@ pub record IsBetter (old new : Program) : Type 0 where
   pub main : new.main ≡ old.main
   pub functions : (f : ℕ) → Both (slice_get old.functions f) (slice_get new.functions f)
   pub valid : IsValidProgram old → IsValidProgram new
+  pub whole : IsTrue (is_whole old) → IsTrue (is_whole new)
   pub runs : (w : Weight) (a values : List ℕ) → IsOfActs w → IsBetterRun (run w old a values) (run w new a values)
 
 -- The function may stand for another in every program, under every number.
@@ -77,3 +78,7 @@ placed p f function = record p { functions = slice_set p.functions f function }
 
 pub record IsBetterFunction (old new : Function) : Type 0 where
   pub everywhere : (p : Program) (f : ℕ) → slice_get p.functions f ≡ Some old → IsBetter p (placed p f new)
+
+-- The functions may stand for others, number by number, in every program of those.
+pub record AreBetter (old new : List Function) : Type 0 where
+  pub everywhere : (p : Program) → p.functions ≡ old → IsBetter p (record p { functions = new })

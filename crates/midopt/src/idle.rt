@@ -3,7 +3,7 @@
 ghost use Rattle.std.specs.Prelude.{◌≡◌, ◌<◌, true, false, length, OnOk};
 ghost use Rattle.midcode.specs.Function.{kinds, IsValidFunction};
 ghost use Rattle.midopt.specs.Better.{IsBetterFunction};
-ghost use Rattle.midopt.specs.Tidy.{HasNoIdle};
+ghost use Rattle.midopt.specs.Tidy.{HasNoIdle, IsFolded};
 ghost use Rattle.midopt.specs.Marks.{marks_of};
 
 use crate::marks::{find_marks, is_unmarked};
@@ -17,6 +17,7 @@ fn sweep(f: &mut MidFn, marks: &[bool]) -> bool
     requires marks { marks.now ≡ marks_of (kinds f.old) (length f.old.registers) }
     requires valid { IsValidFunction f.old }
     ensures better { IsBetterFunction f.old f.new }
+    ensures folded { IsFolded (kinds f.old) → IsFolded (kinds f.new) }
     ensures some { result ≡ true → length f.new.nodes < length f.old.nodes }
     ensures none { result ≡ false → HasNoIdle (kinds f.new) }
 {
@@ -38,6 +39,9 @@ fn sweep(f: &mut MidFn, marks: &[bool]) -> bool
 pub fn remove_idle(alloc: Global, f: &mut MidFn) -> Result<(), Memory>
     ensures better { IsBetterFunction f.old f.new }
     ensures done { OnOk result (HasNoIdle (kinds f.new)) }
+
+    // No operation can be computed before the run that couldn't be.
+    ensures folded { IsFolded (kinds f.old) → IsFolded (kinds f.new) }
 {
     loop {
         let marks = find_marks(alloc, f)?;
