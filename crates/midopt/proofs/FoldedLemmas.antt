@@ -1,7 +1,7 @@
 -- Lists of operations of which none could be computed before the run, read from the first on; such a list with a value taken out that
 -- nobody reads.
 use Rattle.std.proofs.Common.{◌≡◌, ℕ, ◌==◌, Bool, true, false, not, ◌&&◌, List, [], ◌∷◌, ◌++◌, Option, Some, None}
-use Rattle.std.proofs.Common.{refl, sym, subst, ap, ◌∙◌, append-nil, append_assoc, reverse, if◌then◌else◌}
+use Rattle.std.proofs.Common.{refl, sym, subst, ap, ◌∙◌, arith, append-nil, append_assoc, reverse, if◌then◌else◌}
 use Rattle.std.specs.Prelude.{is_some}
 use Rattle.std.specs.List.{list_all, list_any}
 use Rattle.std.proofs.lemmas.Bool.{and_parts, and_from, or_parts, not-true}
@@ -22,11 +22,11 @@ pub reverse-cons : (k : OpKind) (ks before : List OpKind) → reverse (k ∷ ks)
 reverse-cons k ks before =
     ap (λ l. l ++ before) (reverse-append (k ∷ []) ks) ∙ append_assoc (reverse ks) (k ∷ []) before
 
-tail-of : OpKind → List OpKind → List OpKind
+abbrev tail-of : OpKind → List OpKind → List OpKind
 tail-of d [] = []
 tail-of d (k ∷ ks) = ks
 
-head-of : OpKind → List OpKind → OpKind
+abbrev head-of : OpKind → List OpKind → OpKind
 head-of d [] = d
 head-of d (k ∷ ks) = k
 
@@ -92,7 +92,7 @@ all-known b c to (r ∷ rs) same none =
     ap (λ z. is_some (known c r.0) && z) (all-known b c to rs same parts.1)
   where
     flip : (r to : ℕ) → (r == to) ≡ false → (to == r) ≡ false
-    flip r to h = grind h
+    flip r to h = grind (arith, h)
 
 same-folded : (b c : List OpKind) (to : ℕ) (ks : List OpKind) → ((r : ℕ) → (to == r) ≡ false → known b r ≡ known c r)
     → are_reading ks to ≡ false → all_folded b ks ≡ all_folded c ks

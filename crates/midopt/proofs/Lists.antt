@@ -46,15 +46,15 @@ closed-none x = grind arith
 
 -- ---- one operation
 
-standing-value : (k : OpKind) (ks : List OpKind) → is_value k ≡ true → standing (k ∷ ks) ≡ standing ks
+pub standing-value : (k : OpKind) (ks : List OpKind) → is_value k ≡ true → standing (k ∷ ks) ≡ standing ks
 standing-value (op.Label l) ks h = cc
 standing-value _ ks h = refl
 
-standing-cons : (k : OpKind) (ks ls : List OpKind) → standing ks ≡ standing ls → standing (k ∷ ks) ≡ standing (k ∷ ls)
+pub standing-cons : (k : OpKind) (ks ls : List OpKind) → standing ks ≡ standing ls → standing (k ∷ ks) ≡ standing (k ∷ ls)
 standing-cons (op.Label l) ks ls same = ap (λ s. l.0 ∷ s) same
 standing-cons _ ks ls same = same
 
-at-value : (k : OpKind) (ks : List OpKind) (l : ℕ) → is_value k ≡ true → standing_at (k ∷ ks) l ≡ 1 + standing_at ks l
+pub at-value : (k : OpKind) (ks : List OpKind) (l : ℕ) → is_value k ≡ true → standing_at (k ∷ ks) l ≡ 1 + standing_at ks l
 at-value (op.Label m) ks l h = cc
 at-value _ ks l h = refl
 
@@ -68,7 +68,7 @@ at-cons (op.Label m) L ks ls l same = either (m.0 == l)
     either false = ap (λ n. 1 + n) same ∙ sym (closed-one L (standing_at ls l))
 at-cons _ L ks ls l same = ap (λ n. 1 + n) same ∙ sym (closed-one L (standing_at ls l))
 
-not-last : (k : OpKind) → is_value k ≡ true → is_last k ≡ true → false ≡ true
+pub not-last : (k : OpKind) → is_value k ≡ true → is_last k ≡ true → false ≡ true
 not-last (op.Return v) h last = h
 not-last (op.Jump l) h last = h
 not-last op.Halt h last = h
