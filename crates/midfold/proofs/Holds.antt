@@ -60,12 +60,8 @@ take-more : (ks : List OpKind) (x : ℕ) (k : OpKind) → slice_get ks x ≡ Som
 take-more [] x k at = cc
 take-more (j ∷ ks) zero k at = ap (λ i. i ∷ []) (some-same j k at)
   where
-    abbrev value-of : OpKind → Option OpKind → OpKind
-    value-of d None = d
-    value-of d (Some i) = i
-
     some-same : (j k : OpKind) → Some j ≡ Some k → j ≡ k
-    some-same j k same = ap (value-of j) same
+    some-same j k same = cc
 take-more (j ∷ ks) (suc x) k at = ap (λ l. j ∷ l) (take-more ks x k at)
 
 next-suc : (x : ℕ) → x + 1 ≡ suc x

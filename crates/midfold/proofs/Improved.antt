@@ -19,7 +19,7 @@ use Rattle.midcode.specs.Function.{Function, has, each_of, fits}
 use Rattle.midcode.specs.Program.{Outside, is_linked}
 use Rattle.midcode.specs.Cost.{size, charge, multiplies, divides, is_helped, work, work_with, helped_charge}
 use Rattle.midcode.proofs.Valid.{parts-of}
-use Rattle.midfold.specs.Folding.{width_at, constant, number_at, from_one, from_two, improved_binary, improved}
+use Rattle.midfold.specs.Folding.{width_at, cut, constant, number_at, from_one, from_two, improved_binary, improved}
 
 pub record Fine (registers : List Width) (labels : ℕ) (k j : OpKind) : Type 0 where
   pub was : is_value k ≡ true
@@ -92,7 +92,7 @@ module _ (registers : List Width) (labels : ℕ) where
     was = c.was;
     now = refl;
     fit = λ fit.
-        fit-constant registers labels to _
+        fit-constant registers labels to (cut registers to.0 n)
         (ap (each_of (has registers)) (sym c.writes) ∙ (parts-of registers labels k fit).writes_own);
     size = c.size;
     charge = c.charge;

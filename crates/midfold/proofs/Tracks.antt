@@ -28,21 +28,24 @@ pub record Tracks (registers : List Width) (before : List OpKind) (held : List (
 
 -- ---- the table
 
-index-none : (n r : ℕ) → slice_index_or (replicate n (None {ℕ})) r None ≡ None
+abbrev none : Option ℕ
+none = None
+
+index-none : (n r : ℕ) → slice_index_or (replicate n none) r None ≡ None
 index-none zero r = refl
 index-none (suc n) zero = refl
 index-none (suc n) (suc r) = index-none n r
 
-length-none : (n : ℕ) → length (replicate n (None {ℕ})) ≡ n
+length-none : (n : ℕ) → length (replicate n none) ≡ n
 length-none zero = refl
 length-none (suc n) = ap suc (length-none n)
 
-forgotten : (l : List (Option ℕ)) (r : ℕ) → slice_index_or (map (λ _. None {ℕ}) l) r None ≡ None
+forgotten : (l : List (Option ℕ)) (r : ℕ) → slice_index_or (map (λ _. none) l) r None ≡ None
 forgotten [] r = refl
 forgotten (x ∷ l) zero = refl
 forgotten (x ∷ l) (suc r) = forgotten l r
 
-length-map : (l : List (Option ℕ)) → length (map (λ _. None {ℕ}) l) ≡ length l
+length-map : (l : List (Option ℕ)) → length (map (λ _. none) l) ≡ length l
 length-map [] = refl
 length-map (x ∷ l) = ap suc (length-map l)
 

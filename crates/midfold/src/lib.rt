@@ -1,11 +1,12 @@
 //! Tidying programs of operations: operations on known numbers are computed before the run, and values that nobody reads no longer.
 #![tactic(auto)]
 
-mod fold;
+mod folding;
 mod numbers;
 #[cfg(test)]
 mod tests;
-mod tidy;
+mod whole;
 
-pub use fold::fold;
-pub use tidy::{Tidied, tidy, tidy_function};
+
+pub use folding::fold;
+pub use whole::{Tidied, tidy, tidy_function};

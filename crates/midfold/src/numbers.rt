@@ -80,7 +80,7 @@ impl Numbers {
 
     /// Forgets all numbers.
     pub fn forget(&mut self)
-        requires { self.old.rounds < u32::MAX }
+        requires { self.old.rounds < 1048577 }
         ensures { self.new ≡ record { held = map (λ _. None) self.old.held; rounds = self.old.rounds + 1 } }
     {
         self.round += 1;

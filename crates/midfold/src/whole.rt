@@ -5,7 +5,7 @@ ghost use Rattle.midcode.specs.Function.{kinds};
 ghost use Rattle.midopt.specs.Better.{IsBetter, IsBetterFunction, AreBetter};
 ghost use Rattle.midopt.specs.Tidy.{IsTidy};
 
-use crate::fold::fold;
+use crate::folding::fold;
 use midcode::{MidFn, MidProgram};
 use midopt::remove_idle;
 use prunum::Memory;

@@ -135,7 +135,7 @@ fn register_written(kind: &OpKind) -> Option<VReg>
 
 /// Notes what is known behind an operation.
 fn note(widths: &[Width], held: &mut Numbers, kind: &OpKind)
-    requires { held.old.rounds < u32::MAX }
+    requires { held.old.rounds < 1048577 }
     ensures held { held.new.held ≡ noted widths.now kind.now held.old.held }
     ensures rounds { held.new.rounds ≤ held.old.rounds + 1 }
 {
