@@ -30,7 +30,7 @@ use Rattle.midcode.specs.declared.op.OpKind.TheVariants as op
 use Rattle.midcode.specs.Operation.{writes, listed}
 use Rattle.midcode.specs.Value.{unary_value, binary_value}
 use Rattle.midcode.specs.Program.{Program}
-use Rattle.midcode.specs.Machine.{Misaligned, OutsideWindows, NotOwn, OutsideObjects, MoreTurns, FewerTurns, Frame, Caller, State, Does}
+use Rattle.midcode.specs.Machine.{Wild, Misaligned, OutsideWindows, NotOwn, OutsideObjects, MoreTurns, FewerTurns, Frame, Caller, State, Does}
 use Rattle.midcode.specs.Machine.{giving, with_state, in_turn, sure, get, with_register, onwards, at_place, are_in_objects}
 use Rattle.midcode.specs.Machine.{bytes_at, stored, load, store, show, read_from, read, allowed}
 use Rattle.midcode.specs.Machine as machine
@@ -74,18 +74,20 @@ before-more ks x k at =
 -- A label is no place that is come to from the operation before it alone, nor is the end.
 label-outer : (ks : List OpKind) (l : ℕ) → is_inner (slice_get ks (standing_at ks l)) ≡ false
 label-outer [] l = refl
-label-outer (k ∷ ks) l = by k
+label-outer (k ∷ ks) l = by k (label-outer ks l)
   where
     one-more : (k : OpKind) (n : ℕ) → is_inner (slice_get ks n) ≡ false → is_inner (slice_get (k ∷ ks) (1 + n)) ≡ false
     one-more k n h = ap (λ m. is_inner (slice_get (k ∷ ks) m)) (let e : 1 + n ≡ suc n = omega arith in e) ∙ h
 
-    either : (m : Label) (b : Bool) → is_inner (slice_get (op.Label m ∷ ks) (if b then 0 else 1 + standing_at ks l)) ≡ false
-    either m true = refl
-    either m false = one-more (op.Label m) (standing_at ks l) (label-outer ks l)
+    either : (m : Label) (b : Bool) → is_inner (slice_get ks (standing_at ks l)) ≡ false
+        → is_inner (slice_get (op.Label m ∷ ks) (if b then 0 else 1 + standing_at ks l)) ≡ false
+    either m true h = refl
+    either m false h = one-more (op.Label m) (standing_at ks l) h
 
-    by : (k : OpKind) → is_inner (slice_get (k ∷ ks) (standing_at (k ∷ ks) l)) ≡ false
-    by (op.Label m) = either m (m.0 == l)
-    by k = one-more k (standing_at ks l) (label-outer ks l)
+    by : (k : OpKind) → is_inner (slice_get ks (standing_at ks l)) ≡ false
+        → is_inner (slice_get (k ∷ ks) (standing_at (k ∷ ks) l)) ≡ false
+    by (op.Label m) h = either m (m.0 == l) h
+    by k h = one-more k (standing_at ks l) h
 
 -- What is known behind an operation is its constant, or was known before.
 abbrev Behind : OpKind → List OpKind → ℕ → ℕ → Type 0
@@ -252,7 +254,7 @@ module _ (q : Program) where
         same-number n v e = cc
 
         same-register : (r : ℕ) → is_result r (writes k) ≡ true → (r == to.0) ≡ true
-        same-register r on = turned to.0 r (sym (ap (is_result r) is) ∙ on)
+        same-register r own = turned to.0 r (sym (ap (is_result r) is) ∙ own)
           where
             turned : (n m : ℕ) → (n == m) ≡ true → (m == n) ≡ true
             turned n m h = grind (arith, h)
@@ -265,7 +267,7 @@ module _ (q : Program) where
         by r v (inl (wrote, seen)) =
             ap (λ b. if b then Some (wrap (width_of q t to) n) else t.frame.registers r) (same-register r wrote) ∙
             ap (λ g. Some (cut (widths g) to.0 n)) at.function ∙
-            ap (λ m. Some (cut (widths f) m n)) (sym (same-id r to.0 (same-register r wrote)) ∙ refl) ∙
+            ap (λ m. Some (cut (widths f) m n)) (same-id r to.0 (same-register r wrote)) ∙
             ap (λ m. Some (cut (widths f) r m)) (same-number n v (sym has ∙ seen))
         by r v (inr (off, was, inner)) =
             ap (λ b. if b then Some (wrap (width_of q t to) n) else t.frame.registers r) (unwritten to r is off) ∙

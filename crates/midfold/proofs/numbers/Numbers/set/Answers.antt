@@ -1,4 +1,4 @@
-use Rattle.std.proofs.Common.{sym, ap, ◌∙◌, slice_set}
+use Rattle.std.proofs.Common.{ap, ◌∙◌, slice_set}
 use Rattle.midfold.proofs.NumberLemmas.{all-set, held-set}
 use Rattle.midfold.proofs.numbers.Numbers.set.Goals as goal
 
@@ -9,4 +9,4 @@ pub returns-then-index-len : goal.returns-then-index-len
 returns-then-index-len c =
     ap (λ l. record { held = l; rounds = c.self.inside.round })
     (held-set c.self.inside.round c.self.inside.noted.items c.args.r.0 c.args.number) ∙
-    ap (λ t. record { held = slice_set t.held c.args.r.0 c.args.number; rounds = t.rounds }) (sym c.self.view_is)
+    ap (λ t. record { held = slice_set t.held c.args.r.0 c.args.number; rounds = t.rounds }) c.self.view_is
