@@ -1,1 +1,125 @@
-// Tests.
+ghost use Rattle.std.specs.Prelude.{◌≡◌};
+
+use crate::tidy_function;
+use midcode::{BinaryOp, MOST, MidFn, Op, OpKind, Operand, Signature, VReg};
+use prunum::{Memory, Width};
+use std::alloc::Global;
+use std::process::Abort;
+use std::test::Fail;
+
+// A function with four registers of these widths, without operations.
+fn begun(alloc: Global, width: Width) -> Result<MidFn, Memory> {
+    MidFn::new(
+        alloc,
+        Signature {
+            params: [width; 8],
+            count: 4,
+            result: None,
+        },
+    )
+}
+
+fn op(kind: OpKind) -> Op
+    ensures { result.kind ≡ kind }
+{
+    Op { line: 1, kind }
+}
+
+fn push_constant(rt: &impl Abort, f: &mut MidFn, to: u32, value: u32) -> Result<(), Memory> {
+    assert!(rt; (to as usize) < f.registers().len());
+    assert!(rt; f.op_count() < MOST);
+    f.push(op(OpKind::Constant {
+        to: VReg(to),
+        value,
+    }))
+}
+
+fn push_copy(rt: &impl Abort, f: &mut MidFn, to: u32, from: u32) -> Result<(), Memory> {
+    assert!(rt; (to as usize) < f.registers().len());
+    assert!(rt; (from as usize) < f.registers().len());
+    assert!(rt; f.op_count() < MOST);
+    f.push(op(OpKind::Copy {
+        to: VReg(to),
+        from: VReg(from),
+    }))
+}
+
+fn push_sum(rt: &impl Abort, f: &mut MidFn, to: u32, left: u32, right: u32) -> Result<(), Memory> {
+    assert!(rt; (to as usize) < f.registers().len());
+    assert!(rt; (left as usize) < f.registers().len());
+    assert!(rt; f.op_count() < MOST);
+    f.push(op(OpKind::Binary {
+        op: BinaryOp::Add,
+        to: VReg(to),
+        left: VReg(left),
+        right: Operand::Constant(right),
+    }))
+}
+
+fn push_return(rt: &impl Abort, f: &mut MidFn, from: u32) -> Result<(), Memory> {
+    assert!(rt; (from as usize) < f.registers().len());
+    assert!(rt; f.op_count() < MOST);
+    f.push(op(OpKind::Return(Some(VReg(from)))))
+}
+
+fn push_label(rt: &impl Abort, f: &mut MidFn) -> Result<(), Memory> {
+    assert!(rt; (f.labels() as usize) < MOST);
+    let label = f.add_label();
+    assert!(rt; f.op_count() < MOST);
+    f.push(op(OpKind::Label(label)))
+}
+
+// How many sums there are, and the last constant.
+fn found(f: &MidFn) -> (usize, Option<u32>) {
+    let mut sums = 0;
+    let mut number = None;
+    let mut at = f.first();
+    for _ in 0..f.op_count() {
+        let Some(node) = at else { break };
+        match f.get(node).kind {
+            OpKind::Binary { .. } => sums += 1,
+            OpKind::Constant { value, .. } => number = Some(value),
+            _ => {}
+        }
+        at = f.next(node);
+    }
+    (sums, number)
+}
+
+#[test]
+fn sum_of_a_constant(rt: HostRuntime) -> Result<(), Fail> {
+    let mut f = begun(rt.alloc(), Width::B4)?;
+    push_constant(&rt, &mut f, 1, 3)?;
+    push_copy(&rt, &mut f, 0, 1)?;
+    push_copy(&rt, &mut f, 2, 0)?;
+    push_sum(&rt, &mut f, 2, 2, 4)?;
+    push_return(&rt, &mut f, 2)?;
+    tidy_function(rt.alloc(), &mut f)?;
+    assert_eq!(rt; found(&f), (0, Some(7)));
+    assert_eq!(rt; f.op_count(), 3);
+    Ok(())
+}
+
+#[test]
+fn constant_is_cut(rt: HostRuntime) -> Result<(), Fail> {
+    let mut f = begun(rt.alloc(), Width::B1)?;
+    push_constant(&rt, &mut f, 0, 0x1ff)?;
+    push_sum(&rt, &mut f, 0, 0, 2)?;
+    push_return(&rt, &mut f, 0)?;
+    tidy_function(rt.alloc(), &mut f)?;
+    assert_eq!(rt; found(&f), (0, Some(1)));
+    Ok(())
+}
+
+#[test]
+fn constant_over_a_label(rt: HostRuntime) -> Result<(), Fail> {
+    let mut f = begun(rt.alloc(), Width::B4)?;
+    push_constant(&rt, &mut f, 0, 3)?;
+    push_label(&rt, &mut f)?;
+    push_sum(&rt, &mut f, 0, 0, 4)?;
+    push_return(&rt, &mut f, 0)?;
+    tidy_function(rt.alloc(), &mut f)?;
+    assert_eq!(rt; found(&f), (1, Some(3)));
+    assert_eq!(rt; f.op_count(), 4);
+    Ok(())
+}

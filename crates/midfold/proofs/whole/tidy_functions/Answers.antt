@@ -1,4 +1,4 @@
-use Rattle.std.proofs.Common.{Some, sym, ap, ◌∙◌, arith}
+use Rattle.std.proofs.Common.{arith, get_or}
 use Rattle.std.proofs.lemmas.Option.{slice_get-get_or}
 use Rattle.midopt.proofs.Relation.{all-more}
 use Rattle.midfold.proofs.WholeLemmas.{tidying-first, tidying-next, tidying-done}
@@ -9,16 +9,18 @@ loop-i-init c = tidying-first c.args.functions.now
 
 pub returns-in_err-tidy_function-clause-better : goal.returns-in_err-tidy_function-clause-better
 returns-in_err-tidy_function-clause-better c =
-    all-more c.args.functions.now c.loop-i.functions c.loop-i.i c.index-functions-i.result c.tidy_function.new.f c.loop-i.invariant.better
+    all-more c.args.functions.now c.loop-i.functions c.loop-i.i (get_or c.loop-i.functions c.loop-i.i c.index-functions-i.result)
+    c.tidy_function.new.f c.loop-i.invariant.better
     (slice_get-get_or c.loop-i.functions c.loop-i.i c.index-functions-i.result
-    (omega (arith, c.loop-i-test.true, c.loop-i.invariant.long)) ∙ ap Some (sym c.index-functions-i.is))
+    (omega (arith, c.loop-i-test.true, c.loop-i.invariant.long)))
     c.tidy_function.ensures.better
 
 pub loop-i-preserved : goal.loop-i-preserved
 loop-i-preserved c =
-    tidying-next c.args.functions.now c.loop-i.functions c.loop-i.i c.index-functions-i.result c.tidy_function.new.f c.loop-i.invariant
+    tidying-next c.args.functions.now c.loop-i.functions c.loop-i.i (get_or c.loop-i.functions c.loop-i.i c.index-functions-i.result)
+    c.tidy_function.new.f c.loop-i.invariant
     (slice_get-get_or c.loop-i.functions c.loop-i.i c.index-functions-i.result
-    (omega (arith, c.loop-i-test.true, c.loop-i.invariant.long)) ∙ ap Some (sym c.index-functions-i.is))
+    (omega (arith, c.loop-i-test.true, c.loop-i.invariant.long)))
     c.tidy_function.ensures.better c.in_ok-tidy_function.ensures.done
 
 pub returns-clause-done : goal.returns-clause-done
