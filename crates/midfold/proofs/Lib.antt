@@ -6,3 +6,4 @@ pub mod Replaced
 pub mod FoldLoop
 pub mod NumberLemmas
 pub mod WholeLemmas
+pub mod Samples

@@ -69,21 +69,21 @@ fn push_label(rt: &impl Abort, f: &mut MidFn) -> Result<(), Memory> {
     f.push(op(OpKind::Label(label)))
 }
 
-// How many sums there are, and the last constant.
-fn found(f: &MidFn) -> (usize, Option<u32>) {
-    let mut sums = 0;
+// Whether there is a sum, and the last constant.
+fn found(f: &MidFn) -> (bool, Option<u32>) {
+    let mut sum = false;
     let mut number = None;
     let mut at = f.first();
     for _ in 0..f.op_count() {
         let Some(node) = at else { break };
         match f.get(node).kind {
-            OpKind::Binary { .. } => sums += 1,
+            OpKind::Binary { .. } => sum = true,
             OpKind::Constant { value, .. } => number = Some(value),
             _ => {}
         }
         at = f.next(node);
     }
-    (sums, number)
+    (sum, number)
 }
 
 #[test]
@@ -95,7 +95,7 @@ fn sum_of_a_constant(rt: HostRuntime) -> Result<(), Fail> {
     push_sum(&rt, &mut f, 2, 2, 4)?;
     push_return(&rt, &mut f, 2)?;
     tidy_function(rt.alloc(), &mut f)?;
-    assert_eq!(rt; found(&f), (0, Some(7)));
+    assert_eq!(rt; found(&f), (false, Some(7)));
     assert_eq!(rt; f.op_count(), 3);
     Ok(())
 }
@@ -107,7 +107,7 @@ fn constant_is_cut(rt: HostRuntime) -> Result<(), Fail> {
     push_sum(&rt, &mut f, 0, 0, 2)?;
     push_return(&rt, &mut f, 0)?;
     tidy_function(rt.alloc(), &mut f)?;
-    assert_eq!(rt; found(&f), (0, Some(1)));
+    assert_eq!(rt; found(&f), (false, Some(1)));
     Ok(())
 }
 
@@ -119,7 +119,7 @@ fn constant_over_a_label(rt: HostRuntime) -> Result<(), Fail> {
     push_sum(&rt, &mut f, 0, 0, 4)?;
     push_return(&rt, &mut f, 0)?;
     tidy_function(rt.alloc(), &mut f)?;
-    assert_eq!(rt; found(&f), (1, Some(3)));
+    assert_eq!(rt; found(&f), (true, Some(3)));
     assert_eq!(rt; f.op_count(), 4);
     Ok(())
 }
