@@ -9,8 +9,11 @@ use Rattle.isa.specs.declared.note.NoteKind.{NoteKind}
 use Rattle.isa.specs.declared.note.NoteKind.TheVariants.{Enter, DelayIn, DelayOut, Leave, Own, Return, Turns}
 use Rattle.isa.specs.Image.{Contents, IsImage}
 use Rattle.isa.specs.Note.{AreOrdered, Stands, is_before, kind_number}
-use Rattle.restable.specs.Tables.{table}
-use Rattle.elfwrite.specs.Written.{CanAlwaysBeWritten, CanBeWritten, IsExtra}
+use Rattle.restable.specs.declared.trace.Trace.{Trace}
+use Rattle.restable.specs.Tables.{IsTrace, table}
+use Rattle.std.specs.List.{AllByRecursion}
+use Rattle.pruelf.specs.declared.symbol.Sym.{Sym}
+use Rattle.elfwrite.specs.Written.{CanAlwaysBeWritten, CanBeWritten, IsExtra, IsSymbol}
 
 kind_most : (k : NoteKind) → kind_number k ≤ 7
 kind_most Enter = omega arith
@@ -69,3 +72,7 @@ empty_extra t e = record { symbols = tt; traces = []; each = tt; table = e }
 
 pub empty_fits : (t : List ℕ) → t ≡ table [] → CanAlwaysBeWritten (record { symbols = []; table = t })
 empty_fits t e = λ i is. subst (λ (u : List ℕ). CanBeWritten i (record { symbols = []; table = u })) (sym e) (always_small i is)
+
+pub extra_of : (symbols : List Sym) (traces : List Trace) (t : List ℕ) → AllByRecursion IsSymbol symbols → AllByRecursion IsTrace traces
+    → t ≡ table traces → IsExtra (record { symbols = symbols; table = t })
+extra_of symbols traces t s h e = record { symbols = s; traces = traces; each = h; table = e }

@@ -61,8 +61,14 @@ length_entries : (traces : List Trace) → AllByRecursion IsTrace traces → len
 length_entries [] h = refl
 length_entries (trace ∷ traces) h =
     let short = leb-true _ 32 (and_parts (nat_le (length trace.name) 32) (list_all (λ b. not (b == 0)) trace.name) h.0.name).0 in
-    omega (arith, short, length_entries traces h.1, length-append (entry trace) (flat_map entry traces),
-    length-append trace.name (replicate (32 - length trace.name) 0), length-replicate {A = ℕ} (32 - length trace.name) 0)
+    omega (
+      arith,
+      short,
+      length_entries traces h.1,
+      length-append (entry trace) (flat_map entry traces),
+      length-append trace.name (replicate (32 - length trace.name) 0),
+      length-replicate {A = ℕ} (32 - length trace.name) 0,
+    )
 
 pub length_table : (traces : List Trace) → AllByRecursion IsTrace traces → length (table traces) ≡ 16 + 52 * length traces
 length_table traces h =
@@ -141,9 +147,10 @@ is_mark ws left before m few value stands behind =
 notes_chain : (ws : List ℕ) (before : Option Mark) (m : Mark) (notes : List Mark) → length ws ≤ 2048 → AllByRecursion (λ n. n.value < 2 ^ 32) (m ∷ notes)
     → All (Stands ws) (m ∷ notes) → AreOrdered (m ∷ notes) → IsBehind before m → Chain (IsMark ws) before (m ∷ notes)
 notes_chain ws before m [] few r s o b = (is_mark ws 1 before m few r.0 (All-head (Stands ws) m [] s) b, tt)
-notes_chain ws before m (n ∷ notes) few r s o b =
-    (is_mark ws (suc (length (n ∷ notes))) before m few r.0 (All-head (Stands ws) m (n ∷ notes) s) b,
-    notes_chain ws (Some m) n notes few r.1 (All-tail (Stands ws) m (n ∷ notes) s) o.1 o.0)
+notes_chain ws before m (n ∷ notes) few r s o b = (
+  is_mark ws (suc (length (n ∷ notes))) before m few r.0 (All-head (Stands ws) m (n ∷ notes) s) b,
+  notes_chain ws (Some m) n notes few r.1 (All-tail (Stands ws) m (n ∷ notes) s) o.1 o.0,
+)
 
 all_notes_chain : (ws : List ℕ) (notes : List Mark) → length ws ≤ 2048 → AllByRecursion (λ n. n.value < 2 ^ 32) notes
     → All (Stands ws) notes → AreOrdered notes → Chain (IsMark ws) None notes
@@ -199,8 +206,16 @@ length_filled bytes = length-append bytes (replicate (padding (length bytes)) 0)
 length_parts : (a f n t z s g c : List ℕ) → length (((a ++ f) ++ n) ++ ((t ++ z) ++ s) ++ (g ++ c))
     ≡ length a + length f + length n + length t + length z + length s + length g + length c
 length_parts a f n t z s g c =
-    omega (arith, length-append (((a ++ f) ++ n) ++ ((t ++ z) ++ s)) (g ++ c), length-append ((a ++ f) ++ n) ((t ++ z) ++ s), length-append (a ++ f) n,
-    length-append a f, length-append (t ++ z) s, length-append t z, length-append g c)
+    omega (
+      arith,
+      length-append (((a ++ f) ++ n) ++ ((t ++ z) ++ s)) (g ++ c),
+      length-append ((a ++ f) ++ n) ((t ++ z) ++ s),
+      length-append (a ++ f) n,
+      length-append a f,
+      length-append (t ++ z) s,
+      length-append t z,
+      length-append g c,
+    )
 
 length_front : (p : Plan) → length (front_bytes p) ≡ 116
 unfolding front_bytes

@@ -1,6 +1,10 @@
-use pruelf::Sym;
+ghost use Rattle.std.specs.Prelude.{◌↔◌, All, IsTrue};
+ghost use Rattle.elfwrite.specs.Written.{is_defined};
+
+use crate::ranges::{symbols_are_kept, traces_are_kept};
+use pruelf::{Sym, SymbolPart};
 use prunum::Memory;
-use restable::build;
+use restable::{Trace, build};
 use std::alloc::Global;
 use std::marker::Model;
 
@@ -22,9 +26,9 @@ impl Model for Extra {
 }
 
 impl Extra {
-    ghost use Rattle.std.specs.Prelude.{◌≡◌, [], IfOk};
+    ghost use Rattle.std.specs.Prelude.{◌≡◌, ◌≤◌, [], All, IfOk, IsTrue, length};
     ghost use Rattle.restable.specs.Tables.{table};
-    ghost use Rattle.elfwrite.specs.Written.{CanAlwaysBeWritten, IsExtra};
+    ghost use Rattle.elfwrite.specs.Written.{CanAlwaysBeWritten, IsExtra, is_defined};
 
     /// No symbols, and the resource table of no traces.
     #[tactic(auto, using(crate::proofs::Few::empty_extra, crate::proofs::Few::empty_fits))]
@@ -34,6 +38,23 @@ impl Extra {
     {
         let table = build(alloc, &[])?;
         Ok(Extra::new(Vec::new(alloc), table))
+    }
+
+    /// The symbols, each of which is defined, with addresses as values, and the resource table of at most 1,000,000 traces.
+    #[tactic(auto, using(crate::proofs::Few::extra_of))]
+    pub fn with_traces(
+        alloc: Global,
+        symbols: Vec<Sym>,
+        traces: &[Trace],
+    ) -> Result<Extra, Memory>
+        requires defined { All (λ s. IsTrue (is_defined s.part)) symbols.items }
+        requires few { length traces.now ≤ 1000000 }
+        ensures { IfOk result (λ x. x ≡ record { symbols = symbols.items; table = table traces.now }) }
+    {
+        symbols_are_kept(&symbols);
+        traces_are_kept(traces);
+        let table = build(alloc, traces)?;
+        Ok(Extra::new(symbols, table))
     }
 
     /// The symbols, whose values are addresses, and the bytes of a resource table.
@@ -59,4 +80,11 @@ impl Extra {
     {
         self.table.as_slice()
     }
+}
+
+/// Whether each of the symbols is defined.
+pub fn are_defined(symbols: &[Sym]) -> bool
+    ensures { IsTrue result ↔ All (λ s. IsTrue (is_defined s.part)) symbols.now }
+{
+    symbols.iter().all(|s| s.part != SymbolPart::Used)
 }

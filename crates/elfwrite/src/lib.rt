@@ -11,7 +11,7 @@ mod sections;
 mod symbols;
 mod writing;
 
-pub use extra::Extra;
+pub use extra::{Extra, are_defined};
 pub use writing::{write_exec, write_image};
 
 #[cfg(test)]
