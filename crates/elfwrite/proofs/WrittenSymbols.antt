@@ -1,8 +1,9 @@
 -- Symbols written one after the other, as a loop does.
-use Rattle.std.proofs.Common.{◌≡◌, ℕ, suc, ◌+◌, ◌<◌, ◌≤◌, List, [], ◌∷◌, ◌++◌, length, get_or, drop, replicate, refl, sym, ap, ◌∙◌, append_assoc, arith}
+use Rattle.std.proofs.Common.{◌≡◌, ℕ, suc, ◌+◌, ◌<◌, ◌≤◌, List, [], ◌∷◌, ◌++◌, length, get_or, drop, take, replicate, refl, sym, ap, ◌∙◌, append_assoc, arith}
 use Rattle.std.specs.Prelude.{OnOk, Result, Ok, Err}
 use Rattle.std.specs.List.{flat_map}
-use Rattle.std.proofs.lemmas.List.{append-nil, drop_more, drop_all, length-append}
+use Rattle.std.proofs.lemmas.List.{append-nil, drop_more, drop_all, length-append, take_more}
+use Rattle.std.proofs.lemmas.List.Concat.{flat_map-append}
 use Rattle.pruelf.specs.declared.symbol.Sym.{Sym}
 use Rattle.isa.specs.Image.{Contents}
 use Rattle.pruelf.specs.declared.form.Form.{Form}
@@ -54,3 +55,12 @@ unfolding sections_bytes
 headers_written p all out middle new is first second =
     let bytes = λ (xs : List (Form × ℕ)). flat_map (λ (x : Form × ℕ). section_bytes x.0 x.1) xs in
     second ∙ ap (λ xs. xs ++ bytes all) first ∙ append_assoc out (replicate 40 0) (bytes all) ∙ ap (λ xs. out ++ (replicate 40 0 ++ bytes xs)) is
+
+pub names_more : (symbols : List Sym) (i : ℕ) (s : Sym) → i < length symbols → s ≡ get_or symbols i s
+    → length (flat_map name_bytes (take (i + 1) symbols)) ≡ length (flat_map name_bytes (take i symbols)) + length s.name + 1
+names_more symbols i s lt is =
+    let t : take (i + 1) symbols ≡ take i symbols ++ s ∷ [] = take_more symbols i s lt ∙ ap (λ x. take i symbols ++ x ∷ []) (sym is) in
+    let whole : length (flat_map name_bytes (take (i + 1) symbols)) ≡ length (flat_map name_bytes (take i symbols) ++ flat_map name_bytes (s ∷ [])) =
+        ap (λ ss. length (flat_map name_bytes ss)) t ∙ ap (λ (b : List ℕ). length b) (flat_map-append name_bytes (take i symbols) (s ∷ [])) in
+    omega (arith, whole, length-append (flat_map name_bytes (take i symbols)) (flat_map name_bytes (s ∷ [])),
+    length-append (name_bytes s) [], length-append s.name (0 ∷ []))

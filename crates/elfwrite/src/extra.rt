@@ -42,11 +42,7 @@ impl Extra {
 
     /// The symbols, each of which is defined, with addresses as values, and the resource table of at most 1,000,000 traces.
     #[tactic(auto, using(crate::proofs::Few::extra_of))]
-    pub fn with_traces(
-        alloc: Global,
-        symbols: Vec<Sym>,
-        traces: &[Trace],
-    ) -> Result<Extra, Memory>
+    pub fn with_traces(alloc: Global, symbols: Vec<Sym>, traces: &[Trace]) -> Result<Extra, Memory>
         requires defined { All (λ s. IsTrue (is_defined s.part)) symbols.items }
         requires few { length traces.now ≤ 1000000 }
         ensures { IfOk result (λ x. x ≡ record { symbols = symbols.items; table = table traces.now }) }

@@ -7,11 +7,13 @@ mod extra;
 mod front;
 mod image;
 mod ranges;
+mod room;
 mod sections;
 mod symbols;
 mod writing;
 
 pub use extra::{Extra, are_defined};
+pub use room::can_be_written;
 pub use writing::{write_exec, write_image};
 
 #[cfg(test)]

@@ -1,6 +1,7 @@
 use super::*;
 use isa::{Image, Note, NoteKind, is_image};
-use pruelf::{LoadCause, LoadFault, load};
+use pruelf::{LoadCause, LoadFault, Sym, SymbolName, SymbolPart, load};
+use restable::{Name, Trace, is_name};
 use std::alloc::Global;
 use std::test::Fail;
 
@@ -209,5 +210,121 @@ fn data_and_notes_are_read_again(rt: HostRuntime) -> Result<(), Fail> {
     assert_eq!(rt; (again.data_at(), again.zero()), (0x20, 5));
     assert_eq!(rt; again.init(), [1, 2, 3].as_slice());
     assert_eq!(rt; again.notes(), NOTES.as_slice());
+    Ok(())
+}
+
+// As before, with a trace and three symbols: the resource table at 152; the null symbol at 220 and the others behind it; the
+// symbols' names at 284; the sections' names at 296; the section headers at 368.
+const FRONT_WITH_SYMBOLS: [u32; 29] = [
+    0x464c457f, 0x10101, 0, 0, 0x900002, 1, 0, 52, 368, 0, 0x200034, 0x280002, 0x80009, 1, 116, 0,
+    0, 16, 16, 5, 4, 1, 132, 32, 32, 3, 8, 6, 4,
+];
+
+// The data and the notes; the table of one entry at 20 in it; the symbols `main`, `x` and `y`.
+const BEHIND_CODE_WITH_SYMBOLS: [u32; 38] = [
+    0x30201, 0x10000, 7, 0x50002, 0, 1, 1, 0, 0, 20, 2, 0x10000, 256, 0, 0x676f6c, 0, 0, 0, 0, 0,
+    0, 0, 0, 0, 0, 0, 1, 0, 16, 0x10012, 6, 32, 3, 0x20011, 8, 35, 5, 0x30011,
+];
+
+const SECTIONS_WITH_SYMBOLS: [[u32; 10]; 9] = [
+    [0, 0, 0, 0, 0, 0, 0, 0, 0, 0],
+    [1, 1, 6, 0, 116, 16, 0, 0, 4, 0],
+    [7, 1, 3, 32, 132, 3, 0, 0, 4, 0],
+    [13, 8, 3, 35, 135, 5, 0, 0, 4, 0],
+    [18, 1, 0, 0, 136, 16, 0, 0, 4, 0],
+    [29, 1, 0, 0, 152, 68, 0, 0, 4, 0],
+    [45, 2, 0, 0, 220, 64, 7, 1, 4, 16],
+    [53, 3, 0, 0, 284, 10, 0, 0, 1, 0],
+    [61, 3, 0, 0, 296, 71, 0, 0, 1, 0],
+];
+
+fn file_with_symbols(alloc: Global) -> Result<Vec<u8>, Fail> {
+    let mut bytes = Vec::new(alloc);
+    put_all(&mut bytes, &FRONT_WITH_SYMBOLS)?;
+    put_all(&mut bytes, &ADDING)?;
+    put_all(&mut bytes, &BEHIND_CODE_WITH_SYMBOLS)?;
+    bytes.extend_from_slice(b"\0main\0x\0y\0\0\0")?;
+    put_end(&mut bytes, &SECTIONS_WITH_SYMBOLS)?;
+    Ok(bytes)
+}
+
+/// The symbol of this name.
+fn symbol(
+    alloc: Global,
+    name: &[u8],
+    part: SymbolPart,
+    value: u32,
+    size: u32,
+) -> Result<Sym, Fail> {
+    if name.iter().position(|b| *b == 0).is_some() {
+        return Err("the name of a symbol")?;
+    }
+    let name = SymbolName::from_vec(Vec::from_slice(alloc, name)?);
+    let function = part == SymbolPart::Code;
+    Ok(Sym {
+        name,
+        part,
+        value,
+        size,
+        function,
+    })
+}
+
+/// The function `main`, `x` in the data and `y` in the zero part.
+fn three_symbols(alloc: Global) -> Result<Vec<Sym>, Fail> {
+    let mut symbols = Vec::new(alloc);
+    symbols.push(symbol(alloc, b"main", SymbolPart::Code, 0, 16)?)?;
+    symbols.push(symbol(alloc, b"x", SymbolPart::Data, 32, 3)?)?;
+    symbols.push(symbol(alloc, b"y", SymbolPart::Zero, 35, 5)?)?;
+    Ok(symbols)
+}
+
+/// The trace `log`.
+fn log(alloc: Global) -> Result<Trace, Fail> {
+    let name = b"log".as_slice();
+    if !is_name(name) {
+        return Err("the name of a trace")?;
+    }
+    Ok(Trace {
+        name: Name::from_vec(Vec::from_slice(alloc, name)?),
+        addr: 0x10000,
+        len: 256,
+    })
+}
+
+fn extra(alloc: Global) -> Result<Extra, Fail> {
+    let symbols = three_symbols(alloc)?;
+    if !are_defined(&symbols) {
+        return Err("symbols that are defined")?;
+    }
+    Ok(Extra::with_traces(alloc, symbols, &[log(alloc)?])?)
+}
+
+/// The executable of an image and what stands besides.
+fn written_with(alloc: Global, image: &Image, extra: &Extra) -> Result<Vec<u8>, Fail> {
+    if !can_be_written(image, extra) {
+        return Err("a short executable")?;
+    }
+    Ok(write_exec(alloc, image, extra)?)
+}
+
+#[test]
+fn symbols_and_traces_are_written(rt: HostRuntime) -> Result<(), Fail> {
+    let alloc = rt.alloc();
+    let image = image(alloc, &ADDING, 0x20, &[1, 2, 3], 5, &NOTES)?;
+    let bytes = written_with(alloc, &image, &extra(alloc)?)?;
+    let wanted = file_with_symbols(alloc)?;
+    assert_eq!(rt; bytes.len(), 728);
+    assert_eq!(rt; bytes.as_slice(), wanted.as_slice());
+    Ok(())
+}
+
+#[test]
+fn what_is_only_used_is_no_symbol_of_an_executable(rt: HostRuntime) -> Result<(), Fail> {
+    let alloc = rt.alloc();
+    let mut symbols = three_symbols(alloc)?;
+    assert!(rt; are_defined(&symbols));
+    symbols.push(symbol(alloc, b"printf", SymbolPart::Used, 0, 0)?)?;
+    assert!(rt; !are_defined(&symbols));
     Ok(())
 }

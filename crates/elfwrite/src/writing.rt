@@ -1,3 +1,5 @@
+//! An executable as a whole.
+
 ghost use Rattle.std.specs.Prelude.{◌≡◌, ◌<◌, ◌^◌, ◌++◌, [], length, IfOk, OnOk, Ok};
 ghost use Rattle.pruelf.specs.Executable.{image_in};
 ghost use Rattle.restable.specs.Tables.{table};
