@@ -1,5 +1,7 @@
 -- What is written is read again: the symbols and their names.
-use Rattle.std.proofs.Common.{◌≡◌, ℕ, zero, suc, ◌+◌, ◌-◌, ◌*◌, ◌/◌, ◌%◌, ◌^◌, ◌<◌, ◌≤◌, ◌==◌, ◌&&◌, ◌||◌, Bool, true, false, IsTrue, cond, not, List, [], ◌∷◌, ◌++◌, length, Option, Some, None, Result, Ok, Err, refl, sym, ap, ◌∙◌, append_assoc, arith, nat_lt, nat_le}
+use Rattle.std.proofs.Common.{◌≡◌, ℕ, zero, suc, ◌+◌, ◌-◌, ◌*◌, ◌/◌, ◌%◌, ◌^◌, ◌<◌, ◌≤◌, ◌==◌, ◌&&◌, ◌||◌, Bool, true, false, IsTrue}
+use Rattle.std.proofs.Common.{cond, not, List, [], ◌∷◌, ◌++◌, length, Option, Some, None, Result, Ok, Err, refl, sym, ap, ◌∙◌}
+use Rattle.std.proofs.Common.{append_assoc, arith, nat_lt, nat_le}
 use Rattle.std.specs.Prelude.{is_some, position, drop}
 use Rattle.std.specs.Int.{w8, w16, w32, to_le_bytes}
 use Rattle.std.specs.List.{AllByRecursion, flat_map}
@@ -13,7 +15,8 @@ use Rattle.pruelf.specs.declared.symbol.SymbolPart.{SymbolPart}
 use Rattle.pruelf.specs.declared.symbol.SymbolPart.TheVariants.{Used, Code, Data, Zero}
 use Rattle.pruelf.specs.Fields.{◌>>=◌, bytes_in, fixed_in, judged_in, many_in, number_in, wrong}
 use Rattle.pruelf.specs.Names.{can_name}
-use Rattle.pruelf.specs.Parts.{end_before, entry_in, may_be_info, may_be_name, may_be_section, name_in, named, named_in, names_in, null_in, entries_in, part_at, unless}
+use Rattle.pruelf.specs.Parts.{end_before, entry_in, may_be_info, may_be_name, may_be_section, name_in, named, named_in, names_in}
+use Rattle.pruelf.specs.Parts.{null_in, entries_in, part_at, unless}
 use Rattle.elfwrite.specs.Written.{IsSymbol, info_of, is_defined, name_bytes, names_bytes, numbers, section_of, symbol_bytes, symbols_bytes}
 use Rattle.elfwrite.proofs.Again.{bytes_again, fixed_again, judged_again, number_again, then_ok, wide8, wide16, wide32}
 use Rattle.elfwrite.proofs.PartsAgain.{Chain, many_again}
@@ -77,7 +80,8 @@ abbrev Begins : Option Entry → ℕ → Type 0
 Begins None name = name ≡ 1
 Begins (Some e) name = e.name < name
 
-begins : (size left : ℕ) (before : Option Entry) (name : ℕ) → Begins before name → name + left ≤ size → may_be_name size left before name ≡ true
+begins : (size left : ℕ) (before : Option Entry) (name : ℕ) → Begins before name → name + left ≤ size
+    → may_be_name size left before name ≡ true
 begins size left None name b le = eq-eqb name 1 b
 begins size left (Some e) name b le = and_from _ _ (lt-ltb _ _ b) (le-leb _ _ le)
 
@@ -101,11 +105,13 @@ names_longer [] = omega arith
 names_longer (s ∷ symbols) =
     omega (arith, names_longer symbols, length-append (name_bytes s) (flat_map name_bytes symbols), length-append s.name (0 ∷ []))
 
-name_longer : (s : Sym) (symbols : List Sym) → length (flat_map name_bytes (s ∷ symbols)) ≡ length s.name + 1 + length (flat_map name_bytes symbols)
+name_longer : (s : Sym) (symbols : List Sym) → length (flat_map name_bytes (s ∷ symbols))
+    ≡ length s.name + 1 + length (flat_map name_bytes symbols)
 name_longer s symbols = omega (arith, length-append (name_bytes s) (flat_map name_bytes symbols), length-append s.name (0 ∷ []))
 
 entries_fit : (size : ℕ) (before : Option Entry) (name : ℕ) (symbols : List Sym) → size < 2 ^ 32 → Begins before name
-    → name + length (flat_map name_bytes symbols) ≡ size → AllByRecursion IsSymbol symbols → Chain (IsEntry size) before (entries_of name symbols)
+    → name + length (flat_map name_bytes symbols) ≡ size → AllByRecursion IsSymbol symbols
+    → Chain (IsEntry size) before (entries_of name symbols)
 unfolding entries_of
 entries_fit size before name [] small b e h = tt
 entries_fit size before name (s ∷ symbols) small b e h =
@@ -130,24 +136,29 @@ entries_fit size before name (s ∷ symbols) small b e h =
     let behind : next + length (flat_map name_bytes symbols) ≡ size = omega (arith, e, more) in
     (one, entries_fit size (Some (entry_of name s)) next symbols small (omega arith) behind h.1)
 
-null_again : (end : ℕ) (rest : List ℕ) → null_in end (numbers w32 (0 ∷ 0 ∷ 0 ∷ []) ++ (numbers w8 (0 ∷ 0 ∷ []) ++ (numbers w16 (0 ∷ []) ++ rest))) ≡ Ok rest
+null_again : (end : ℕ) (rest : List ℕ) → null_in end (numbers w32 (0 ∷ 0 ∷ 0 ∷ [])
+    ++ (numbers w8 (0 ∷ 0 ∷ []) ++ (numbers w16 (0 ∷ []) ++ rest))) ≡ Ok rest
 unfolding null_in
 null_again end rest =
     let r3 = numbers w16 (0 ∷ []) ++ rest in
     let r2 = numbers w8 (0 ∷ 0 ∷ []) ++ r3 in
     then_ok (fixed_in causes.Symbol w32 (0 ∷ 0 ∷ 0 ∷ []) end (numbers w32 (0 ∷ 0 ∷ 0 ∷ []) ++ r2)) r2 _
     (fixed_again causes.Symbol w32 wide32 (0 ∷ 0 ∷ 0 ∷ []) end r2 (omega arith, (omega arith, (omega arith, tt))))
-    ∙ then_ok (fixed_in causes.Symbol w8 (0 ∷ 0 ∷ []) end r2) r3 _ (fixed_again causes.Symbol w8 wide8 (0 ∷ 0 ∷ []) end r3 (omega arith, (omega arith, tt)))
+    ∙ then_ok (fixed_in causes.Symbol w8 (0 ∷ 0 ∷ []) end r2) r3 _
+    (fixed_again causes.Symbol w8 wide8 (0 ∷ 0 ∷ []) end r3 (omega arith, (omega arith, tt)))
     ∙ fixed_again causes.Symbol w16 wide16 (0 ∷ []) end rest (omega arith, tt)
 
-pub entries_again : (size end : ℕ) (symbols : List Sym) (rest : List ℕ) → size < 2 ^ 32 → length (names_bytes symbols) ≡ size → AllByRecursion IsSymbol symbols
-    → entries_in size (length symbols) end (numbers w32 (0 ∷ 0 ∷ 0 ∷ []) ++ (numbers w8 (0 ∷ 0 ∷ []) ++ (numbers w16 (0 ∷ []) ++ (symbols_bytes 1 symbols ++ rest))))
+pub entries_again : (size end : ℕ) (symbols : List Sym) (rest : List ℕ) → size < 2 ^ 32 → length (names_bytes symbols) ≡ size
+    → AllByRecursion IsSymbol symbols
+    → entries_in size (length symbols) end (numbers w32 (0 ∷ 0 ∷ 0 ∷ [])
+    ++ (numbers w8 (0 ∷ 0 ∷ []) ++ (numbers w16 (0 ∷ []) ++ (symbols_bytes 1 symbols ++ rest))))
     ≡ Ok (entries_of 1 symbols, rest)
 unfolding entries_in
 entries_again size end symbols rest small e h =
     let all = entries_of 1 symbols in
     let bytes = symbols_bytes 1 symbols ++ rest in
-    then_ok (null_in end (numbers w32 (0 ∷ 0 ∷ 0 ∷ []) ++ (numbers w8 (0 ∷ 0 ∷ []) ++ (numbers w16 (0 ∷ []) ++ bytes)))) bytes _ (null_again end bytes)
+    then_ok (null_in end (numbers w32 (0 ∷ 0 ∷ 0 ∷ []) ++ (numbers w8 (0 ∷ 0 ∷ []) ++ (numbers w16 (0 ∷ []) ++ bytes)))) bytes _
+    (null_again end bytes)
     ∙ ap (λ n. many_in (entry_in size end) n None bytes) (sym (many_entries 1 symbols))
     ∙ ap (λ b. many_in (entry_in size end) (length all) None (b ++ rest)) (entries_written 1 symbols)
     ∙ many_again (entry_in size end) entry_bytes (IsEntry size) (entry_again size end) all None rest
@@ -185,12 +196,14 @@ symbol_back name s =
     ap (λ (p : SymbolPart). record s { part = p; function = info_of s.function == 0x12 }) (part_back s.part)
     ∙ ap (λ (f : Bool). record s { function = f }) (function_back s.function)
 
-ends_before : (size name : ℕ) (symbols : List Sym) → name + length (flat_map name_bytes symbols) ≡ size → end_before size (entries_of name symbols) ≡ name
+ends_before : (size name : ℕ) (symbols : List Sym) → name + length (flat_map name_bytes symbols) ≡ size
+    → end_before size (entries_of name symbols) ≡ name
 unfolding entries_of
 ends_before size name [] e = omega (arith, e)
 ends_before size name (s ∷ symbols) e = refl
 
-named_again : (size end name : ℕ) (symbols : List Sym) (rest : List ℕ) → name + length (flat_map name_bytes symbols) ≡ size → AllByRecursion IsSymbol symbols
+named_again : (size end name : ℕ) (symbols : List Sym) (rest : List ℕ) → name + length (flat_map name_bytes symbols) ≡ size
+    → AllByRecursion IsSymbol symbols
     → named_in size (entries_of name symbols) end (flat_map name_bytes symbols ++ rest) ≡ Ok (symbols, rest)
 unfolding named_in entries_of
 named_again size end name [] rest e h = refl
@@ -204,23 +217,28 @@ named_again size end name (s ∷ symbols) rest e h =
     let bytes : flat_map name_bytes (s ∷ symbols) ++ rest ≡ s.name ++ (0 ∷ behind) =
     append_assoc (s.name ++ 0 ∷ []) (flat_map name_bytes symbols) rest ∙ append_assoc s.name (0 ∷ []) behind in
     ap (λ b. named_in size (first ∷ entries) end b) bytes
-    ∙ ap (λ n. name_in n end (s.name ++ (0 ∷ behind)) >>= λ x. named_in size entries end x.1 >>= λ others. Ok (named x.0 first ∷ others.0, others.1)) count
+    ∙ ap (λ n. name_in n end (s.name ++ (0 ∷ behind)) >>= λ x. named_in size entries end x.1 >>= λ others. Ok
+    (named x.0 first ∷ others.0, others.1)) count
     ∙ then_ok (name_in (length s.name) end (s.name ++ (0 ∷ behind))) (s.name, behind) _ (name_again end s.name behind h.0.name)
     ∙ then_ok (named_in size entries end behind) (symbols, rest) _ (named_again size end next symbols rest left h.1)
     ∙ ap (λ (x : Sym). Ok (x ∷ symbols, rest)) (symbol_back name s)
 
-full : (size : ℕ) (symbols : List Sym) → length (names_bytes symbols) ≡ size → ((length (entries_of 1 symbols) == 0) && nat_lt 1 size) ≡ false
+full : (size : ℕ) (symbols : List Sym) → length (names_bytes symbols) ≡ size → ((length (entries_of 1 symbols) == 0) && nat_lt 1 size)
+    ≡ false
 unfolding entries_of
 full size [] e = ap (λ (n : ℕ). nat_lt 1 n) (sym e)
 full size (s ∷ symbols) e = ap (λ (t : Bool). t && nat_lt 1 size) (ne_eqb (length (entries_of 1 (s ∷ symbols))) 0 (λ z. omega (arith, z)))
 
-pub names_again : (size end : ℕ) (symbols : List Sym) (rest : List ℕ) → length (names_bytes symbols) ≡ size → AllByRecursion IsSymbol symbols
+pub names_again : (size end : ℕ) (symbols : List Sym) (rest : List ℕ) → length (names_bytes symbols) ≡ size
+    → AllByRecursion IsSymbol symbols
     → names_in size (entries_of 1 symbols) end (names_bytes symbols ++ rest) ≡ Ok (symbols, rest)
 unfolding names_in
 names_again size end symbols rest e h =
     let bytes = flat_map name_bytes symbols ++ rest in
     let all = entries_of 1 symbols in
-    then_ok (fixed_in causes.Symbol w8 (0 ∷ []) end (numbers w8 (0 ∷ []) ++ bytes)) bytes _ (fixed_again causes.Symbol w8 wide8 (0 ∷ []) end bytes (omega arith, tt))
-    ∙ ap (λ (t : Bool). cond {A = Result (List Sym × List ℕ) LoadFault} t (Err (wrong causes.Symbol end bytes)) (named_in size all end bytes))
+    then_ok (fixed_in causes.Symbol w8 (0 ∷ []) end (numbers w8 (0 ∷ []) ++ bytes)) bytes _
+    (fixed_again causes.Symbol w8 wide8 (0 ∷ []) end bytes (omega arith, tt))
+    ∙ ap (λ (t : Bool). cond {A = Result (List Sym × List ℕ) LoadFault} t (Err (wrong causes.Symbol end bytes))
+    (named_in size all end bytes))
     (full size symbols e)
     ∙ named_again size end 1 symbols rest (omega (arith, e)) h

@@ -1,5 +1,7 @@
 -- What is written is read again: the resource table, all parts, and the whole executable.
-use Rattle.std.proofs.Common.{◌≡◌, ℕ, zero, suc, ◌+◌, ◌-◌, ◌*◌, ◌/◌, ◌%◌, ◌^◌, ◌<◌, ◌≤◌, ◌==◌, Bool, true, false, cond, List, [], ◌∷◌, ◌++◌, length, drop, replicate, Option, Some, None, Result, Ok, Err, refl, sym, ap, subst, ◌∙◌, append_assoc, arith, nat_lt}
+use Rattle.std.proofs.Common.{◌≡◌, ℕ, zero, suc, ◌+◌, ◌-◌, ◌*◌, ◌/◌, ◌%◌, ◌^◌, ◌<◌, ◌≤◌, ◌==◌, Bool, true, false, cond, List, [], ◌∷◌}
+use Rattle.std.proofs.Common.{◌++◌, length, drop, replicate, Option, Some, None, Result, Ok, Err, refl, sym, ap, subst, ◌∙◌}
+use Rattle.std.proofs.Common.{append_assoc, arith, nat_lt}
 use Rattle.std.proofs.lemmas.List.Folds.{list_any_at}
 use Rattle.std.specs.Prelude.{◌&&◌, ◌||◌, nat_le, not, All, IsSome, IsSomeAnd, IsTrue, is_some, option_and_then, slice_get, slice_index}
 use Rattle.std.specs.Int.{w8, w16, w32, byte_len, to_le_bytes}
@@ -27,10 +29,14 @@ use Rattle.pruelf.specs.Executable.{Held, Loaded, executable_in, image_in, memor
 use Rattle.pruelf.specs.Fields.{◌>>=◌, bytes_in, fixed_in, many_in, wrong}
 use Rattle.pruelf.specs.Front.{begun, header_in, sections_in, segments_in}
 use Rattle.pruelf.specs.Layout.{padding, section_names, section_names_offset}
-use Rattle.pruelf.specs.Parts.{bears, entries_in, kind_before, kinds, located, may_be_word, may_follow, names_in, note_in, resources_in, word_before, word_in}
+use Rattle.pruelf.specs.Parts.{bears, entries_in, kind_before, kinds, located, may_be_word, may_follow, names_in, note_in, resources_in}
+use Rattle.pruelf.specs.Parts.{word_before, word_in}
 use Rattle.elfwrite.specs.Ranged.{IsRanged}
-use Rattle.elfwrite.specs.Written.{Besides, CanBeWritten, IsExtra, IsSymbol, executable, filled, front_bytes, header_bytes, names_bytes, note_bytes, numbers, parts_bytes, plan_of, section_names_bytes, sections, sections_bytes, segments_bytes, symbol_bytes, symbols_bytes}
-use Rattle.elfwrite.proofs.Again.{IsPlanned, bytes_again, filled_up, fixed_again, header_again, headers_again, loads_of, sections_allowed, segments_again, then_ok, wide8, wide32}
+use Rattle.elfwrite.specs.Written.{Besides, CanBeWritten, IsExtra, IsSymbol, executable, filled, front_bytes, header_bytes, names_bytes}
+use Rattle.elfwrite.specs.Written.{note_bytes, numbers, parts_bytes, plan_of, section_names_bytes, sections, sections_bytes}
+use Rattle.elfwrite.specs.Written.{segments_bytes, symbol_bytes, symbols_bytes}
+use Rattle.elfwrite.proofs.Again.{IsPlanned, bytes_again, filled_up, fixed_again, header_again, headers_again, loads_of}
+use Rattle.elfwrite.proofs.Again.{sections_allowed, segments_again, then_ok, wide8, wide32}
 use Rattle.elfwrite.proofs.PartsAgain.{Chain, IsMark, IsWord, notes_again, words_again}
 use Rattle.elfwrite.proofs.Few.{kind_least}
 use Rattle.elfwrite.proofs.SymbolsAgain.{entries_again, entries_of, names_again, names_longer}
@@ -76,7 +82,8 @@ length_table traces h =
     let w = words (offsets (16 + 4 * n) n) in
     omega (arith, length_offsets n (16 + 4 * n), length_entries traces h, length-append w (flat_map entry traces))
 
-resources_again : (traces : List Trace) (size end : ℕ) (rest : List ℕ) → AllByRecursion IsTrace traces → length (table traces) ≡ size → size < 2 ^ 31
+resources_again : (traces : List Trace) (size end : ℕ) (rest : List ℕ) → AllByRecursion IsTrace traces → length (table traces) ≡ size
+    → size < 2 ^ 31
     → resources_in size end (table traces ++ rest) ≡ Ok (table traces, rest)
 unfolding resources_in
 resources_again traces size end rest h e small =
@@ -85,14 +92,17 @@ resources_again traces size end rest h e small =
     let behind = words (0 ∷ 0 ∷ []) ++ (words (offsets (16 + 4 * n) n) ++ flat_map entry traces) ++ rest in
     let count : (size - 16) / 52 ≡ n = omega (arith, e, length_table traces h) in
     let few : n < 2 ^ 32 = omega (arith, e, length_table traces h, small) in
-    ap (λ k. fixed_in causes.Table w32 (1 ∷ k ∷ []) end bytes >>= λ r. bytes_in size end bytes >>= λ t. located end bytes (table_in t.0) >>= λ ts. Ok t) count
-    ∙ then_ok (fixed_in causes.Table w32 (1 ∷ n ∷ []) end bytes) behind _ (fixed_again causes.Table w32 wide32 (1 ∷ n ∷ []) end behind (omega arith, (few, tt)))
+    ap (λ k. fixed_in causes.Table w32 (1 ∷ k ∷ []) end bytes >>= λ r. bytes_in size end bytes >>= λ t. located end bytes (table_in t.0)
+    >>= λ ts. Ok t) count
+    ∙ then_ok (fixed_in causes.Table w32 (1 ∷ n ∷ []) end bytes) behind _
+    (fixed_again causes.Table w32 wide32 (1 ∷ n ∷ []) end behind (omega arith, (few, tt)))
     ∙ then_ok (bytes_in size end bytes) (table traces, rest) _ (bytes_again size end (table traces) rest e)
     ∙ ap (λ r. located end bytes r >>= λ ts. Ok (table traces, rest)) (table_again traces h (omega (arith, e, small)))
 
 -- ---- words
 
-words_chain : (before : Option ℕ) (ws : List ℕ) → AllByRecursion (λ w. w < 2 ^ 32) ws → All (λ w. IsSome (decoded w)) ws → Chain IsWord before ws
+words_chain : (before : Option ℕ) (ws : List ℕ) → AllByRecursion (λ w. w < 2 ^ 32) ws → All (λ w. IsSome (decoded w)) ws
+    → Chain IsWord before ws
 words_chain before [] r d = tt
 words_chain before (w ∷ ws) r d =
     ((r.0, All-head (λ v. IsSome (decoded v)) w ws d), words_chain (Some w) ws r.1 (All-tail (λ v. IsSome (decoded v)) w ws d))
@@ -134,7 +144,8 @@ is_behind : (before : Option Mark) (m : Mark) → IsBehind before m
     → (nat_le (word_before before) m.word ≡ true) × (nat_lt (kind_before before m.word) (kind_number m.kind) ≡ true)
 is_behind None m h = (le-leb 0 m.word (omega arith), lt-ltb 0 (kind_number m.kind) (kind_least m.kind))
 is_behind (Some b) m h =
-    behind_by b.word m.word (kind_number b.kind) (kind_number m.kind) (nat_lt b.word m.word) (b.word == m.word) refl refl (kind_least m.kind) h
+    behind_by b.word m.word (kind_number b.kind) (kind_number m.kind) (nat_lt b.word m.word) (b.word == m.word) refl refl
+    (kind_least m.kind) h
 
 is_mark : (ws : List ℕ) (left : ℕ) (before : Option Mark) (m : Mark) → length ws ≤ 2048 → m.value < 2 ^ 32 → Stands ws m → IsBehind before m
     → IsMark ws left before m
@@ -144,7 +155,8 @@ is_mark ws left before m few value stands behind =
     let follow : may_follow ws before m.word m.kind ≡ true = and_from _ _ is.1 (bears_back ws m.word m.word m.kind word stands.place) in
     (omega (arith, word, few), value, and_from _ _ is.0 (some_kind (may_follow ws before m.word) m.kind follow), follow, stands.value)
 
-notes_chain : (ws : List ℕ) (before : Option Mark) (m : Mark) (notes : List Mark) → length ws ≤ 2048 → AllByRecursion (λ n. n.value < 2 ^ 32) (m ∷ notes)
+notes_chain : (ws : List ℕ) (before : Option Mark) (m : Mark) (notes : List Mark) → length ws ≤ 2048
+    → AllByRecursion (λ n. n.value < 2 ^ 32) (m ∷ notes)
     → All (Stands ws) (m ∷ notes) → AreOrdered (m ∷ notes) → IsBehind before m → Chain (IsMark ws) before (m ∷ notes)
 notes_chain ws before m [] few r s o b = (is_mark ws 1 before m few r.0 (All-head (Stands ws) m [] s) b, tt)
 notes_chain ws before m (n ∷ notes) few r s o b = (
@@ -227,9 +239,21 @@ length_names = refl
 
 length_all : (i : Contents) (x : Besides) → length (front_bytes (plan_of i x) ++ parts_bytes i x) ≡ (plan_of i x).sections_at
 length_all i x =
-    let whole = length_parts (numbers w32 i.words) (filled i.init) (flat_map note_bytes i.notes) x.table (replicate 16 0) (symbols_bytes 1 x.symbols)
+    let whole = length_parts (numbers w32 i.words) (filled i.init) (flat_map note_bytes i.notes) x.table (replicate 16 0)
+    (symbols_bytes 1 x.symbols)
     (filled (names_bytes x.symbols)) section_names_bytes in
-    omega (arith, length-append (front_bytes (plan_of i x)) (parts_bytes i x), length_front (plan_of i x), length_names, whole, length_numbers i.words, length_filled i.init, length_notes i.notes, length_symbols 1 x.symbols, length_filled (names_bytes x.symbols))
+    omega (
+      arith,
+      length-append (front_bytes (plan_of i x)) (parts_bytes i x),
+      length_front (plan_of i x),
+      length_names,
+      whole,
+      length_numbers i.words,
+      length_filled i.init,
+      length_notes i.notes,
+      length_symbols 1 x.symbols,
+      length_filled (names_bytes x.symbols),
+    )
 
 -- ---- the parts
 
@@ -260,8 +284,10 @@ memory_again i x end rest h =
     let r1 = i.init ++ r2 in
     let bytes = numbers w32 i.words ++ r1 in
     let count : 4 * length i.words / 4 ≡ length i.words = omega arith in
-    let made : List ℕ → List ℕ → List ℕ → Result (Loaded × List ℕ) LoadFault = λ ws init behind. Ok (record { words = ws; init = init }, behind) in
-    ap (λ k. many_in (word_in end) k None bytes >>= λ ws. bytes_in n end ws.1 >>= λ init. pad_in n end init.1 >>= λ behind. made ws.0 init.0 behind) count
+    let made : List ℕ → List ℕ → List ℕ → Result (Loaded × List ℕ) LoadFault =
+    λ ws init behind. Ok (record { words = ws; init = init }, behind) in
+    ap (λ k. many_in (word_in end) k None bytes >>= λ ws. bytes_in n end ws.1 >>= λ init. pad_in n end init.1 >>= λ behind. made ws.0
+    init.0 behind) count
     ∙ then_ok (many_in (word_in end) (length i.words) None bytes) (i.words, r1) _ (words_again end i.words r1 h)
     ∙ then_ok (bytes_in n end r1) (i.init, r2) _ (bytes_again n end i.init r2 refl)
     ∙ then_ok (pad_in n end r2) rest _ (pad_again n end rest)
@@ -284,11 +310,15 @@ symbols_again i x end rest extra small =
     let bytes = symbols_on x rest in
     let count : (16 + 16 * length x.symbols) / 16 - 1 ≡ length x.symbols = omega arith in
     let fits : size < 2 ^ 32 = omega (arith, small) in
-    ap (λ k. entries_in size k end bytes >>= λ entries. names_in size entries.0 end entries.1 >>= λ symbols. pad_in size end symbols.1 >>= λ behind. fixed_in causes.Section w8 section_names end behind >>= λ b. fixed_in causes.Pad w8 (0 ∷ []) end b >>= λ d. Ok (symbols.0, d)) count
-    ∙ then_ok (entries_in size (length x.symbols) end bytes) (entries_of 1 x.symbols, r1) _ (entries_again size end x.symbols r1 fits refl extra.symbols)
+    ap (λ k. entries_in size k end bytes >>= λ entries. names_in size entries.0 end entries.1 >>= λ symbols. pad_in size end symbols.1
+    >>= λ behind. fixed_in causes.Section w8 section_names end behind >>= λ b. fixed_in causes.Pad w8 (0 ∷ []) end b >>= λ d. Ok
+    (symbols.0, d)) count
+    ∙ then_ok (entries_in size (length x.symbols) end bytes) (entries_of 1 x.symbols, r1) _
+    (entries_again size end x.symbols r1 fits refl extra.symbols)
     ∙ then_ok (names_in size (entries_of 1 x.symbols) end r1) (x.symbols, r2) _ (names_again size end x.symbols r2 refl extra.symbols)
     ∙ then_ok (pad_in size end r2) r3 _ (pad_again size end r3)
-    ∙ then_ok (fixed_in causes.Section w8 section_names end r3) (0 ∷ rest) _ (fixed_again causes.Section w8 wide8 section_names end (0 ∷ rest) (bytes_small section_names refl))
+    ∙ then_ok (fixed_in causes.Section w8 section_names end r3) (0 ∷ rest) _
+    (fixed_again causes.Section w8 wide8 section_names end (0 ∷ rest) (bytes_small section_names refl))
     ∙ then_ok (fixed_in causes.Pad w8 (0 ∷ []) end (0 ∷ rest)) rest _ (fixed_again causes.Pad w8 wide8 (0 ∷ []) end rest (omega arith, tt))
 
 abbrev holds : Contents → Besides → Held
@@ -313,7 +343,8 @@ parts_again i x end rest is extra small ranged =
     } in
     then_ok (memory_in p end (parts_on i x rest)) (record { words = i.words; init = i.init }, r1) _
     (memory_again i x end r1 (words_chain None i.words ranged.words is.decode))
-    ∙ ap (λ k. many_in (note_in i.words end) k None r1 >>= λ notes. resources_in size end notes.1 >>= λ t. symbols_in p end t.1 >>= λ symbols. Ok (made (length i.init + i.zero - length i.init) notes.0 t.0 symbols.0)) count
+    ∙ ap (λ k. many_in (note_in i.words end) k None r1 >>= λ notes. resources_in size end notes.1 >>= λ t. symbols_in p end t.1
+    >>= λ symbols. Ok (made (length i.init + i.zero - length i.init) notes.0 t.0 symbols.0)) count
     ∙ then_ok (many_in (note_in i.words end) (length i.notes) None r1) (i.notes, r2) _
     (notes_again i.words end i.notes r2 (all_notes_chain i.words i.notes is.few ranged.notes is.stand is.ordered))
     ∙ then_ok (resources_in size end r2) (x.table, r3) _
@@ -337,20 +368,25 @@ executable_again i x is extra small ranged =
     let lt : p.sections_at < 2 ^ 32 = omega (arith, small) in
     let dropped : drop p.sections_at bytes ≡ sections_bytes p =
     drop_at (front_bytes p ++ parts_bytes i x) (sections_bytes p) p.sections_at (length_all i x) in
-    let ends : Plan × List ℕ → Held → Result Held LoadFault = λ plan held. cond (length plan.1 == 0) (Ok held) (Err (wrong causes.Trailing end plan.1)) in
+    let ends : Plan × List ℕ → Held → Result Held LoadFault =
+    λ plan held. cond (length plan.1 == 0) (Ok held) (Err (wrong causes.Trailing end plan.1)) in
     then_ok (header_in end bytes) (p.sections_at, r1) _ (header_again p end r1 lt (sections_allowed p h))
     ∙ then_ok (segments_in p.sections_at end r1) (loads_of p, r2) _ (segments_again p end r2 h)
     ∙ ap (λ d. sections_in (begun p.sections_at (loads_of p)) end d >>= λ plan. parts_in plan.0 end r2 >>= λ held. ends plan held) dropped
     ∙ then_ok (sections_in (begun p.sections_at (loads_of p)) end (sections_bytes p)) (p, []) _ (headers_again p end h)
     ∙ ap (λ b. parts_in p end b >>= λ held. Ok held)
     (regroup (numbers w32 i.words) i.init (replicate (padding (length i.init)) 0) (flat_map note_bytes i.notes) x.table (replicate 16 0)
-    (symbols_bytes 1 x.symbols) (names_bytes x.symbols) (replicate (padding (length (names_bytes x.symbols))) 0) (filled section_names) (sections_bytes p))
-    ∙ then_ok (parts_in p end (parts_on i x (sections_bytes p))) (holds i x) _ (parts_again i x end (sections_bytes p) is extra small ranged)
+    (symbols_bytes 1 x.symbols) (names_bytes x.symbols) (replicate (padding (length (names_bytes x.symbols))) 0) (filled section_names)
+    (sections_bytes p))
+    ∙ then_ok (parts_in p end (parts_on i x (sections_bytes p))) (holds i x) _
+    (parts_again i x end (sections_bytes p) is extra small ranged)
 
-pub image_again : (i : Contents) (x : Besides) (bytes : List ℕ) → bytes ≡ executable i x → IsImage i → IsExtra x → CanBeWritten i x → IsRanged i
+pub image_again : (i : Contents) (x : Besides) (bytes : List ℕ) → bytes ≡ executable i x → IsImage i → IsExtra x → CanBeWritten i x
+    → IsRanged i
     → image_in bytes ≡ Ok i
 image_again i x bytes e is extra small ranged =
-    ap image_in e ∙ then_ok (executable_in (executable i x)) (holds i x) (λ held. Ok held.image) (executable_again i x is extra small ranged)
+    ap image_in e ∙ then_ok (executable_in (executable i x)) (holds i x) (λ held. Ok held.image)
+    (executable_again i x is extra small ranged)
 
 length_sections : (p : Plan) → length (sections_bytes p) ≡ 360
 unfolding sections_bytes sections

@@ -1,5 +1,6 @@
 -- The one written form of an executable: the bytes of an image with its symbols and its resource table.
-use Rattle.std.specs.Prelude.{◌≡◌, ℕ, ◌+◌, ◌-◌, ◌*◌, ◌^◌, ◌<◌, if◌then◌else◌, Bool, true, false, IsTrue, List, [], ◌∷◌, ◌++◌, length, replicate}
+use Rattle.std.specs.Prelude.{◌≡◌, ℕ, ◌+◌, ◌-◌, ◌*◌, ◌^◌, ◌<◌, if◌then◌else◌, Bool, true, false, IsTrue, List, [], ◌∷◌, ◌++◌, length}
+use Rattle.std.specs.Prelude.{replicate}
 use Rattle.std.specs.List.{flat_map, AllByRecursion}
 use Rattle.std.specs.Int.{Width, w8, w16, w32, to_le_bytes}
 use Rattle.isa.specs.declared.note.Note.{Note}
@@ -14,7 +15,8 @@ use Rattle.pruelf.specs.declared.symbol.SymbolPart.{SymbolPart}
 use Rattle.pruelf.specs.declared.symbol.SymbolPart.TheVariants.{Used, Code, Data, Zero}
 use Rattle.pruelf.specs.Front.{identification}
 use Rattle.pruelf.specs.Names.{can_name}
-use Rattle.pruelf.specs.Layout.{padding, section_names, section_names_offset, fields_before, fields_behind, code_form, data_form, zero_form, notes_form, table_form, symbols_form, names_form, section_names_form}
+use Rattle.pruelf.specs.Layout.{padding, section_names, section_names_offset, fields_before, fields_behind, code_form, data_form}
+use Rattle.pruelf.specs.Layout.{zero_form, notes_form, table_form, symbols_form, names_form, section_names_form}
 
 -- ---- what stands in an executable besides its image
 

@@ -1,3 +1,5 @@
+ghost use Rattle.std.specs.Prelude.{◌≡◌, ◌==◌, position};
+
 use super::*;
 use isa::{Image, Note, NoteKind, is_image};
 use pruelf::{LoadCause, LoadFault, Sym, SymbolName, SymbolPart, load};
@@ -248,6 +250,13 @@ fn file_with_symbols(alloc: Global) -> Result<Vec<u8>, Fail> {
     Ok(bytes)
 }
 
+/// Where the first byte of 0 is.
+fn zero_in(text: &[u8]) -> Option<usize>
+    ensures { result ≡ position (λ b. b == 0) text.now }
+{
+    text.iter().position(|b| *b == 0)
+}
+
 /// The symbol of this name.
 fn symbol(
     alloc: Global,
@@ -256,7 +265,7 @@ fn symbol(
     value: u32,
     size: u32,
 ) -> Result<Sym, Fail> {
-    if name.iter().position(|b| *b == 0).is_some() {
+    if zero_in(name).is_some() {
         return Err("the name of a symbol")?;
     }
     let name = SymbolName::from_vec(Vec::from_slice(alloc, name)?);

@@ -8,11 +8,18 @@ loop-symbol-preserved c =
     let l = c.loop-symbol in
     let s = c.symbol-item.result in
     record {
-      bytes = rw c.as_slice.ensures.bytes (symbol_written c.args.symbols.now l.symbol-index l.name s l.out.items c.put_symbol.new.out.items (c.args.out.now.items ++ symbols_bytes 1 c.args.symbols.now) c.loop-symbol-test.true c.symbol-item.is c.in_ok-put_symbol.ensures l.invariant.bytes);
-      names = rw c.as_slice.ensures.bytes (omega (arith, l.invariant.names, names_left c.args.symbols.now l.symbol-index s c.loop-symbol-test.true c.symbol-item.is));
+      bytes = rw c.as_slice.ensures.bytes (symbol_written c.args.symbols.now l.symbol-index l.name s l.out.items
+          c.put_symbol.new.out.items (c.args.out.now.items ++ symbols_bytes 1 c.args.symbols.now) c.loop-symbol-test.true c.symbol-item.is
+          c.in_ok-put_symbol.ensures l.invariant.bytes);
+      names = rw c.as_slice.ensures.bytes (omega (
+        arith,
+        l.invariant.names,
+        names_left c.args.symbols.now l.symbol-index s c.loop-symbol-test.true c.symbol-item.is,
+      ));
     }
 
 pub returns : goal.returns
 returns c =
     let l = c.loop-symbol in
-    symbols_written c.args.symbols.now l.symbol-index l.name l.out.items (c.args.out.now.items ++ symbols_bytes 1 c.args.symbols.now) c.loop-symbol-test.false l.invariant.bytes
+    symbols_written c.args.symbols.now l.symbol-index l.name l.out.items (c.args.out.now.items ++ symbols_bytes 1 c.args.symbols.now)
+    c.loop-symbol-test.false l.invariant.bytes
