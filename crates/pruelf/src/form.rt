@@ -87,12 +87,14 @@ fn strings(name: u64, offset: u64) -> Form
 }
 
 impl Plan {
+    /// The header of `.text`.
     pub fn code_form() -> Form
         ensures { result ≡ layout.code_form }
     {
         part(1, PROGRAM_BITS, LOADED + EXECUTED, 0, 116)
     }
 
+    /// That of `.data`.
     pub fn data_form(&self) -> Form
         ensures { result ≡ layout.data_form self.now }
     {
@@ -100,6 +102,7 @@ impl Plan {
         part(7, PROGRAM_BITS, LOADED + WRITE, address, self.data_offset())
     }
 
+    /// That of `.bss`.
     pub fn zero_form(&self) -> Form
         ensures { result ≡ layout.zero_form self.now }
     {
@@ -109,18 +112,21 @@ impl Plan {
         part(13, NO_BITS, LOADED + WRITE, address, offset)
     }
 
+    /// That of `.pru.notes`.
     pub fn notes_form(&self) -> Form
         ensures { result ≡ layout.notes_form self.now }
     {
         part(18, PROGRAM_BITS, 0, 0, self.notes_offset())
     }
 
+    /// That of `.resource_table`.
     pub fn table_form(&self) -> Form
         ensures { result ≡ layout.table_form self.now }
     {
         part(29, PROGRAM_BITS, 0, 0, self.table_offset())
     }
 
+    /// That of `.symtab`.
     pub fn symbols_form(&self) -> Form
         ensures { result ≡ layout.symbols_form self.now }
     {
@@ -132,12 +138,14 @@ impl Plan {
         }
     }
 
+    /// That of `.strtab`.
     pub fn names_form(&self) -> Form
         ensures { result ≡ layout.names_form self.now }
     {
         strings(53, self.names_offset())
     }
 
+    /// That of `.shstrtab`.
     pub fn section_names_form(&self) -> Form
         ensures { result ≡ layout.section_names_form self.now }
     {

@@ -22,8 +22,12 @@ mod symbol;
 mod symbols;
 mod words;
 
+pub use executable::SECTION_NAMES;
 pub use fault::{LoadCause, LoadFault};
+pub use form::Form;
+pub use header::IDENTIFICATION;
 pub use loading::load;
+pub use plan::{Plan, padding};
 pub use symbol::{Sym, SymbolName, SymbolPart};
 
 #[cfg(test)]

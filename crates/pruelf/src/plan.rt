@@ -37,6 +37,7 @@ pub fn padding(length: u32) -> u32
 }
 
 impl Plan {
+    /// Where the data stands in the file.
     pub fn data_offset(&self) -> u64
         ensures value { result ≡ layout.data_offset self.now }
         ensures bound { result < 2 ^ 40 }
@@ -44,6 +45,7 @@ impl Plan {
         116 + u64::from(self.code)
     }
 
+    /// Where the notes stand in the file.
     pub fn notes_offset(&self) -> u64
         ensures value { result ≡ layout.notes_offset self.now }
         ensures bound { result < 2 ^ 40 }
@@ -51,6 +53,7 @@ impl Plan {
         116 + u64::from(self.code) + u64::from(self.init) + u64::from(padding(self.init))
     }
 
+    /// Where the resource table stands in the file.
     pub fn table_offset(&self) -> u64
         ensures value { result ≡ layout.table_offset self.now }
         ensures bound { result < 2 ^ 40 }
@@ -61,6 +64,7 @@ impl Plan {
             + u64::from(self.notes)
     }
 
+    /// Where the symbols stand in the file.
     pub fn symbols_offset(&self) -> u64
         ensures value { result ≡ layout.symbols_offset self.now }
         ensures bound { result < 2 ^ 40 }
@@ -72,6 +76,7 @@ impl Plan {
             + u64::from(self.table)
     }
 
+    /// Where the symbols' names stand in the file.
     pub fn names_offset(&self) -> u64
         ensures value { result ≡ layout.names_offset self.now }
         ensures bound { result < 2 ^ 40 }
@@ -84,6 +89,7 @@ impl Plan {
             + u64::from(self.symbols)
     }
 
+    /// Where the sections' names stand in the file.
     pub fn section_names_offset(&self) -> u64
         ensures value { result ≡ layout.section_names_offset self.now }
         ensures bound { result < 2 ^ 40 }
