@@ -1,19 +1,18 @@
 -- Files that are read or written one after the other.
-use Rattle.std.proofs.Common.{◌≡◌, ℕ, ◌<◌, ◌≤◌, List, [], ◌∷◌, ◌++◌, length, map, Option, Some, None, ◌⊎◌, refl, sym, ap, subst, ◌∙◌, inl, inr}
+use Rattle.std.proofs.Common.{◌≡◌, ℕ, ◌<◌, ◌≤◌, List, [], ◌∷◌, ◌++◌, length, Option, Some, None, refl, sym, ap, subst, ◌∙◌, inl, inr}
 use Rattle.std.specs.Prelude.{Vec}
 use Rattle.std.specs.declared.alloc.Global.{Global}
 use Rattle.std.proofs.lemmas.List.{map-append, append_assoc}
 use Rattle.fileset.specs.FileMap.{NamedFiles}
 use Rattle.fileset.specs.Told.{Held, content, Tells, IsSameFiles}
-use Rattle.fileset.specs.Faults.{Rose}
 use Rattle.modefiles.specs.declared.input.Input.{Input}
 use Rattle.modefiles.specs.declared.fault.InputFault.{InputFault}
 use Rattle.modefiles.specs.declared.fault.InputFault.TheVariants as input_fault
 use Rattle.modefiles.specs.declared.fault.OutputFault.{OutputFault}
 use Rattle.modefiles.specs.declared.fault.OutputFault.TheVariants as output_fault
-use Rattle.modefiles.specs.Reading.{AreWithin, InputFails, IsNamed, IsMost, IsFirstLong, bytes_of, contents}
-use Rattle.modefiles.specs.Writing.{HoldsFile, CutsFile, CutsAt, Wrote, WroteSome, OutputFails}
-use Rattle.modefiles.proofs.Told.{Tells-then, Tells-weaker, same-then, content-same, rose-since}
+use Rattle.modefiles.specs.Reading.{InputFails, IsFirstLong, bytes_of, contents}
+use Rattle.modefiles.specs.Writing.{HoldsFile, CutsAt, Wrote, WroteSome, OutputFails}
+use Rattle.modefiles.proofs.Told.{Tells-then, Tells-weaker, content-same, rose-since}
 
 -- ---- reading
 

@@ -2,7 +2,7 @@
 use Rattle.std.specs.Prelude.{◌≡◌, ◌⊎◌, ℕ, ◌<◌, ◌≤◌, List, [], ◌∷◌, length, map, Option}
 use Rattle.std.specs.declared.alloc.Global.{Global}
 use Rattle.std.specs.Prelude.{Vec}
-use Rattle.fileset.specs.Told.{Held, content, Tells, IsSameFiles}
+use Rattle.fileset.specs.Told.{Held, content, Tells}
 use Rattle.fileset.specs.Faults.{Rose}
 use Rattle.modefiles.specs.declared.input.Input.{Input}
 use Rattle.modefiles.specs.declared.fault.InputFault.{InputFault}

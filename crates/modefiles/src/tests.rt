@@ -98,11 +98,7 @@ fn write_both(alloc: Global, failing_call: u32) -> Result<String, Fail> {
 
 #[test]
 fn files_written(rt: HostRuntime) -> Result<(), Fail> {
-    for (failing_call, told) in [
-        (0, "done 1 2"),
-        (1, "write x 0 0"),
-        (2, "write y 1 0"),
-    ] {
+    for (failing_call, told) in [(0, "done 1 2"), (1, "write x 0 0"), (2, "write y 1 0")] {
         let answer = write_both(rt.alloc(), failing_call)?;
         assert_eq!(rt; answer.as_str(), told);
     }

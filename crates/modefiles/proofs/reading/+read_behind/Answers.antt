@@ -1,4 +1,3 @@
-use Rattle.std.proofs.Common.{List, OnOk, IfErr}
 use Rattle.std.proofs.lemmas.Result.{IfErr-weaker, on_ok_weaker}
 use Rattle.modefiles.proofs.InTurn.{read_in_turn, later_fails}
 use Rattle.modefiles.proofs.reading.+read_behind.Goals as goal

@@ -1,4 +1,4 @@
--- What a run builds out of its inputs.
+-- What a run of two sources makes.
 use Rattle.std.proofs.Common.{◌≡◌, ℕ, ◌+◌, List, [], ◌∷◌, length, map, min, refl, ap, ◌∙◌, arith}
 use Rattle.std.proofs.lemmas.List.{length-append, length-map, length-take}
 use Rattle.prunum.specs.declared.width.Width.TheVariants.{B4}
@@ -8,16 +8,14 @@ use Rattle.prutrace.specs.declared.event.Event.TheVariants as events
 use Rattle.prutrace.specs.Text.{events_of, events_text}
 use Rattle.prucc.specs.declared.machine.Stop.{Stop}
 use Rattle.prucc.specs.declared.run.Outcome.{Outcome}
-use Rattle.prucc.specs.declared.status.Status.{Status}
-use Rattle.prucc.specs.declared.status.Status.TheVariants.{Done, Source, Words, ReadFault, WriteFault, TooLong, NoMemory, NotBuilt}
-use Rattle.prucc.specs.declared.top.Inputs.{Inputs}
+use Rattle.prucc.specs.declared.job.BothCores.{BothCores}
+use Rattle.prucc.specs.declared.refusal.Refusal.{Refusal}
+use Rattle.prucc.specs.declared.refusal.Refusal.TheVariants.{Source, Script, Elf, NoMemory, NotBuilt}
 use Rattle.prucc.specs.Source.{Writes}
 use Rattle.prucc.specs.Meaning.{meaning, shown_in, event_count}
 use Rattle.prucc.specs.Run.{stamped_from, ShowsMeaning}
-use Rattle.prucc.specs.Request.{Asked}
-use Rattle.prucc.specs.Summary.{core_line, summary_line}
-use Rattle.prucc.specs.Answers.{OfZero, OfOne, InZero, InOne, events_file}
-use Rattle.prucc.specs.RunAnswer.{SourceFails, BuildFails}
+use Rattle.prucc.specs.Sources.{RunRefuses, SourceFails, OfZero, OfOne, InZero, InOne, events_file}
+use Rattle.prucc.specs.Summary.{core_line, line_of, summary_line}
 
 pub events_stamped : (cycle : ℕ) (es : List Event) → events_of (stamped_from cycle es) ≡ es
 events_stamped cycle [] = refl
@@ -38,7 +36,7 @@ length_shown n ks = omega (
 
 -- a run that shows the meaning has the meaning's line
 pub line_is : (core n : ℕ) (ks : List ℕ) (o : Outcome) → ShowsMeaning ks n o
-    → core_line core (length o.trace.items) o.count o.stop ≡ summary_line core n ks
+    → line_of core o ≡ summary_line core n ks
 line_is core n ks o h =
     let events : length o.trace.items ≡ min n (event_count ks) = ap length h.trace ∙ length_stamped 0 (shown_in n ks) ∙ length_shown n ks in
     ap (λ (e : ℕ). core_line core e o.count o.stop) events
@@ -53,24 +51,18 @@ events_are n ks0 ks1 zero one h k =
 
 -- ---- refusals
 
-pub zero_fails : (r : Asked) (inputs : Inputs) (s : Status) → inputs.script.items ≡ [] → SourceFails 0 r.zero inputs.zero.items s
-    → BuildFails r inputs s
-zero_fails r inputs (NotBuilt file span) empty h = OfZero empty h.1 h.0
-zero_fails r inputs (Source core span cause) empty h = InZero empty h.0 h.1
-zero_fails r inputs NoMemory empty h = tt
-zero_fails r inputs Done empty h = h
-zero_fails r inputs Words empty h = h
-zero_fails r inputs (ReadFault file) empty h = h
-zero_fails r inputs (WriteFault file) empty h = h
-zero_fails r inputs (TooLong file max) empty h = h
+pub zero_fails : (r : BothCores) (zero one script : List ℕ) (refusal : Refusal) → script ≡ [] → SourceFails 0 r.zero zero refusal
+    → RunRefuses r zero one script refusal
+zero_fails r zero one script (NotBuilt file span) empty h = OfZero empty h.1 h.0
+zero_fails r zero one script (Source core span cause) empty h = InZero empty h.0 h.1
+zero_fails r zero one script NoMemory empty h = tt
+zero_fails r zero one script (Script line cause) empty h = h
+zero_fails r zero one script (Elf name offset cause) empty h = h
 
-pub one_fails : (r : Asked) (inputs : Inputs) (ks : List ℕ) (s : Status) → inputs.script.items ≡ [] → Writes inputs.zero.items ks
-    → SourceFails 1 r.one inputs.one.items s → BuildFails r inputs s
-one_fails r inputs ks (NotBuilt file span) empty zero h = OfOne empty ks zero h.1 h.0
-one_fails r inputs ks (Source core span cause) empty zero h = InOne empty ks zero h.0 h.1
-one_fails r inputs ks NoMemory empty zero h = tt
-one_fails r inputs ks Done empty zero h = h
-one_fails r inputs ks Words empty zero h = h
-one_fails r inputs ks (ReadFault file) empty zero h = h
-one_fails r inputs ks (WriteFault file) empty zero h = h
-one_fails r inputs ks (TooLong file max) empty zero h = h
+pub one_fails : (r : BothCores) (zero one script ks : List ℕ) (refusal : Refusal) → script ≡ [] → Writes zero ks
+    → SourceFails 1 r.one one refusal → RunRefuses r zero one script refusal
+one_fails r zero one script ks (NotBuilt file span) empty writes h = OfOne empty ks writes h.1 h.0
+one_fails r zero one script ks (Source core span cause) empty writes h = InOne empty ks writes h.0 h.1
+one_fails r zero one script ks NoMemory empty writes h = tt
+one_fails r zero one script ks (Script line cause) empty writes h = h
+one_fails r zero one script ks (Elf name offset cause) empty writes h = h

@@ -1,5 +1,5 @@
 use Rattle.prucc.proofs.SourceParts.{not_built_fails}
-use Rattle.prucc.proofs.top.source_writes.Goals as goal
+use Rattle.prucc.proofs.sources.source_writes.Goals as goal
 
 pub returns-in-Err-NotBuilt-clause-err : goal.returns-in-Err-NotBuilt-clause-err
 returns-in-Err-NotBuilt-clause-err c =
