@@ -11,10 +11,12 @@ use std::alloc::Global;
 
 // A file with a byte more than its most is read that far.
 fn read_input<F: Files>(alloc: Global, files: &mut F, input: &Input) -> Result<Vec<u8>, InputFault>
-    ensures bytes { IfOk result (λ bytes. Tells (F.told files.old) (F.told files.new) (λ before _. bytes.items ≡ content before input.now.name)) }
+    ensures bytes { IfOk result (λ bytes. Tells (F.told files.old) (F.told files.new)
+        (λ before _. bytes.items ≡ content before input.now.name)) }
     ensures within { IfOk result (λ bytes. length bytes.items ≤ input.now.most) }
     ensures same { Tells (F.told files.old) (F.told files.new) IsSameFiles }
-    ensures err { IfErr result (InputFails (input.now ∷ []) (F.told files.old) (F.told files.new) (F.faults files.old) (F.faults files.new)) }
+    ensures err { IfErr result (InputFails (input.now ∷ []) (F.told files.old) (F.told files.new)
+        (F.faults files.old) (F.faults files.new)) }
     ensures grows { F.faults files.old ≤ F.faults files.new }
 {
     let most = input.most as usize;
@@ -53,7 +55,8 @@ fn read_behind<F: Files>(
 ) -> Result<(), InputFault>
     ensures bytes { OnOk result (Tells (F.told files.old) (F.told files.new)
         (λ before _. bytes_of texts.new.items ≡ bytes_of texts.old.items ++ contents before inputs.now)) }
-    ensures within { OnOk result ((behind : List (List ℕ)) × (bytes_of texts.new.items ≡ bytes_of texts.old.items ++ behind) × AreWithin inputs.now behind) }
+    ensures within { OnOk result ((behind : List (List ℕ)) × (bytes_of texts.new.items ≡ bytes_of texts.old.items ++ behind) ×
+        AreWithin inputs.now behind) }
     ensures same { Tells (F.told files.old) (F.told files.new) IsSameFiles }
     ensures err { IfErr result (InputFails inputs.now (F.told files.old) (F.told files.new) (F.faults files.old) (F.faults files.new)) }
     ensures grows { F.faults files.old ≤ F.faults files.new }
@@ -72,7 +75,8 @@ pub fn read_all<F: Files>(
     files: &mut F,
     inputs: &[Input],
 ) -> Result<Vec<Vec<u8>>, InputFault>
-    ensures bytes { IfOk result (λ texts. Tells (F.told files.old) (F.told files.new) (λ before _. bytes_of texts.items ≡ contents before inputs.now)) }
+    ensures bytes { IfOk result (λ texts. Tells (F.told files.old) (F.told files.new)
+        (λ before _. bytes_of texts.items ≡ contents before inputs.now)) }
     ensures within { IfOk result (λ texts. AreWithin inputs.now (bytes_of texts.items)) }
     ensures same { Tells (F.told files.old) (F.told files.new) IsSameFiles }
     ensures err { IfErr result (InputFails inputs.now (F.told files.old) (F.told files.new) (F.faults files.old) (F.faults files.new)) }

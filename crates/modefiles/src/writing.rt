@@ -10,7 +10,8 @@ use std::vec::IntoIter;
 
 fn write_output<F: Files>(files: &mut F, output: Output) -> Result<(), OutputFault>
     ensures ok { OnOk result (Tells (F.told files.old) (F.told files.new) (HoldsFile (output.name, output.bytes.items))) }
-    ensures err { IfErr result (OutputFails (named (output ∷ [])) (F.told files.old) (F.told files.new) (F.faults files.old) (F.faults files.new)) }
+    ensures err { IfErr result (OutputFails (named (output ∷ [])) (F.told files.old) (F.told files.new)
+        (F.faults files.old) (F.faults files.new)) }
     ensures grows { F.faults files.old ≤ F.faults files.new }
 {
     match files.write(output.name.as_str(), &output.bytes) {
@@ -22,7 +23,8 @@ fn write_output<F: Files>(files: &mut F, output: Output) -> Result<(), OutputFau
 
 fn write_rest<F: Files>(files: &mut F, outputs: &mut IntoIter<Output>) -> Result<(), OutputFault>
     ensures ok { OnOk result (Tells (F.told files.old) (F.told files.new) (Wrote (named (into_iter_items outputs.old)))) }
-    ensures err { IfErr result (OutputFails (named (into_iter_items outputs.old)) (F.told files.old) (F.told files.new) (F.faults files.old) (F.faults files.new)) }
+    ensures err { IfErr result (OutputFails (named (into_iter_items outputs.old)) (F.told files.old) (F.told files.new)
+        (F.faults files.old) (F.faults files.new)) }
     ensures grows { F.faults files.old ≤ F.faults files.new }
 {
     let Some(output) = outputs.next() else {
@@ -35,7 +37,8 @@ fn write_rest<F: Files>(files: &mut F, outputs: &mut IntoIter<Output>) -> Result
 /// Writes the files in their order. Where one fails, those before it are written and those behind it are untouched.
 pub fn write_all<F: Files>(files: &mut F, outputs: Vec<Output>) -> Result<(), OutputFault>
     ensures ok { OnOk result (Tells (F.told files.old) (F.told files.new) (Wrote (named outputs.items))) }
-    ensures err { IfErr result (OutputFails (named outputs.items) (F.told files.old) (F.told files.new) (F.faults files.old) (F.faults files.new)) }
+    ensures err { IfErr result (OutputFails (named outputs.items) (F.told files.old) (F.told files.new)
+        (F.faults files.old) (F.faults files.new)) }
     ensures grows { F.faults files.old ≤ F.faults files.new }
 {
     let mut rest = outputs.into_iter();

@@ -85,7 +85,8 @@ pub fn run_executables(
     requires one_within { length one.now ≤ 1048576 }
     requires script_within { length script.now ≤ 1048576 }
     requires cycles { cores.now.cycles ≤ 2000000 }
-    ensures makes { IfOk result (λ work. SimMakes cores.now table zero.now one.now script.now (named work.outputs.items) (string_bytes work.lines)) }
+    ensures makes { IfOk result (λ work. SimMakes cores.now table zero.now one.now script.now
+        (named work.outputs.items) (string_bytes work.lines)) }
     ensures refuses { IfErr result (SimRefuses cores.now zero.now one.now script.now) }
 {
     match simulate(alloc, zero, one, script, table, cores.cycles) {

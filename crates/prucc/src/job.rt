@@ -74,7 +74,8 @@ fn table_of(number: Option<&str>) -> Option<Table>
 
 /// The cycle table that the value of the one option means.
 fn table_in(options: &[Option<&str>]) -> Option<Table>
-    ensures { MatchOption result ((o : Option (List ℕ)) → (t : Table) → map (option_map (λ text. text.now)) options.now ≡ o ∷ [] → IsTable o t → ⊥)
+    ensures { MatchOption result ((o : Option (List ℕ)) → (t : Table) → map (option_map (λ text. text.now)) options.now ≡ o ∷ []
+        → IsTable o t → ⊥)
         (λ t. (o : Option (List ℕ)) × (map (option_map (λ text. text.now)) options.now ≡ o ∷ []) × IsTable o t) }
 {
     let [option] = options else {

@@ -83,7 +83,8 @@ pub fn run_sources(
 ) -> Result<Work, Refusal>
     requires zero_within { length zero.now ≤ MAX_SOURCE }
     requires one_within { length one.now ≤ MAX_SOURCE }
-    ensures makes { IfOk result (λ work. RunMakes cores.now zero.now one.now script.now (named work.outputs.items) (string_bytes work.lines)) }
+    ensures makes { IfOk result (λ work. RunMakes cores.now zero.now one.now script.now
+        (named work.outputs.items) (string_bytes work.lines)) }
     ensures refuses { IfErr result (RunRefuses cores.now zero.now one.now script.now) }
 {
     if !script.is_empty() {

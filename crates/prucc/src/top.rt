@@ -47,7 +47,8 @@ fn work_of(alloc: Global, job: &Job, texts: &[Vec<u8>]) -> Result<Work, Refusal>
 fn plan<F: Files>(alloc: Global, words: &[String], files: &mut F) -> Result<Work, Status>
     ensures work { IfOk result (IsPlanned (texts words.now) (F.told files.old) (F.told files.new)) }
     ensures same { Tells (F.told files.old) (F.told files.new) IsSameFiles }
-    ensures err { IfErr result (PlanFails (texts words.now) (F.told files.old) (F.told files.new) (F.faults files.old) (F.faults files.new)) }
+    ensures err { IfErr result (PlanFails (texts words.now) (F.told files.old) (F.told files.new)
+        (F.faults files.old) (F.faults files.new)) }
     ensures grows { F.faults files.old ≤ F.faults files.new }
 {
     let Some(job) = Job::from_words(alloc, words)? else {
@@ -90,7 +91,8 @@ pub fn prucc<F: Files, S: Sink>(
     ensures no_job { ((job : Job) → Asks (texts words.now) job → ⊥) → (result ≡ Status.Words) ⊎ (result ≡ Status.NoMemory) }
 
     // The files and lines that the job makes of what its files hold are written, and nothing else is.
-    ensures done { result ≡ Status.Done → Finishes (texts words.now) (F.told files.old) (F.told files.new) (S.told out.old) (S.told out.new) }
+    ensures done { result ≡ Status.Done → Finishes (texts words.now) (F.told files.old) (F.told files.new)
+        (S.told out.old) (S.told out.new) }
 
     // The cause for which the job makes nothing of what its files hold: the first rule that a source breaks; the first bad line of
     // the script; the first fault of an executable; the first file that isn't built yet, at the place from which it isn't.
