@@ -13,5 +13,14 @@ run_form = record {
   options = [];
 }
 
+-- `sim E0 E1 H N OUT`, with the option `--table T`
+abbrev pub sim_form : Form
+sim_form = record {
+  mode = codes "sim";
+  places = place.File ∷ place.File ∷ place.File ∷ place.Number 0 2000000 ∷ place.File ∷ [];
+  options = codes "table" ∷ [];
+}
+
 abbrev pub form_in : Mode → Form
 form_in mode.Run = run_form
+form_in mode.Sim = sim_form

@@ -128,6 +128,44 @@ fn a_run(rt: HostRuntime) -> Result<(), Fail> {
 }
 
 #[test]
+fn a_simulation(rt: HostRuntime) -> Result<(), Fail> {
+    use Value::{File, Number};
+    let places: &[Value] = &[File("a"), File("b"), File("h"), Number(12), File("out")];
+    let rows = [
+        Row {
+            words: &["sim", "a", "b", "h", "12", "out"],
+            asked: Some((places, &[None])),
+        },
+        Row {
+            words: &["sim", "--table", "2", "a", "b", "h", "12", "out"],
+            asked: Some((places, &[Some("2")])),
+        },
+        Row {
+            words: &["sim", "a", "b", "h", "--table=1", "12", "--", "out"],
+            asked: Some((places, &[Some("1")])),
+        },
+        Row {
+            words: &[
+                "sim", "a", "b", "h", "12", "out", "--table", "1", "--table", "1",
+            ],
+            asked: None,
+        },
+        Row {
+            words: &["sim", "a", "b", "h", "2000001", "out"],
+            asked: None,
+        },
+        Row {
+            words: &["sim", "a", "b", "h", "12", "out", "--table"],
+            asked: None,
+        },
+    ];
+    for row in &rows {
+        assert!(rt; asks(rt.alloc(), Mode::Sim.form(), row)?);
+    }
+    Ok(())
+}
+
+#[test]
 fn options_at_each_place(rt: HostRuntime) -> Result<(), Fail> {
     use Value::{File, Number};
     static PLACES: [Place; 2] = [Place::File, Place::Number { least: 1, most: 36 }];

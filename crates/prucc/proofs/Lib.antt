@@ -1,9 +1,10 @@
-pub mod TreeForm
-pub mod BareForm
-pub mod Tokens
-pub mod Verdict
-pub mod SourceParts
-pub mod RunSteps
-pub mod Told
-pub mod TopBuild
-pub mod TopRun
+mod RunSteps
+mod BareForm
+mod TreeForm
+mod Tokens
+mod SourceParts
+mod RunOfSources
+mod RunOfExecutables
+mod JobWords
+mod WholeJob
+mod Verdict

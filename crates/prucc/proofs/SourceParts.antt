@@ -10,11 +10,11 @@ use Rattle.cpre.specs.Expansion as expansion
 use Rattle.cparse.specs.Parsed as parsed
 use Rattle.prucc.specs.declared.form.FormFault.{FormFault}
 use Rattle.prucc.specs.declared.form.FormFault.TheVariants as form
-use Rattle.prucc.specs.declared.status.Status.{Status}
-use Rattle.prucc.specs.declared.status.Status.TheVariants.{Done, Source, Words, ReadFault, WriteFault, TooLong, NoMemory, NotBuilt}
+use Rattle.prucc.specs.declared.refusal.Refusal.{Refusal}
+use Rattle.prucc.specs.declared.refusal.Refusal.TheVariants.{Source, Script, Elf, NoMemory, NotBuilt}
 use Rattle.prucc.specs.Source.{IsExpandedTo, IsTreeOf, IsFaultOf, InTokens, InExpansion, InGrammar, IsUnbuilt}
 use Rattle.prucc.specs.SourceAnswer.{FormFails, Refuses, refusal_of, refusal_at}
-use Rattle.prucc.specs.RunAnswer.{NotBuiltIn, SourceFails}
+use Rattle.prucc.specs.Sources.{NotBuiltIn, SourceFails}
 
 pub tokens_broken : (bytes : List ℕ) (fault : SourceFault) → text.IsFaultOf bytes fault → IsFaultOf bytes fault
 tokens_broken bytes (source.Broken span cause) h = InTokens h
@@ -39,13 +39,10 @@ pub form_refuses : (bytes : List ℕ) (tree : Contents) (fault : FormFault) → 
 form_refuses bytes tree (form.At span) of_source h = record { tree = tree; of_source = of_source; departs = h }
 form_refuses bytes tree form.Memory of_source h = tt
 
-pub not_built_fails : (core : ℕ) (name text : List ℕ) (span : Span) (s : Status) → IsUnbuilt text span → NotBuiltIn name span s
-    → SourceFails core name text s
+pub not_built_fails : (core : ℕ) (name text : List ℕ) (span : Span) (r : Refusal) → IsUnbuilt text span → NotBuiltIn name span r
+    → SourceFails core name text r
 not_built_fails core name text span (NotBuilt file place) unbuilt h = (h.0, subst (IsUnbuilt text) (sym h.1) unbuilt)
 not_built_fails core name text span NoMemory unbuilt h = tt
-not_built_fails core name text span Done unbuilt h = h
 not_built_fails core name text span (Source _ _ _) unbuilt h = absurd h
-not_built_fails core name text span Words unbuilt h = h
-not_built_fails core name text span (ReadFault _) unbuilt h = h
-not_built_fails core name text span (WriteFault _) unbuilt h = h
-not_built_fails core name text span (TooLong _ _) unbuilt h = h
+not_built_fails core name text span (Script _ _) unbuilt h = h
+not_built_fails core name text span (Elf _ _ _) unbuilt h = h

@@ -1,150 +1,130 @@
--- What a run leaves, and the cause of each refusal.
-use Rattle.std.specs.Prelude.{◌≡◌, ◌≢◌, ◌⊎◌, ℕ, ◌<◌, ◌≤◌, List, [], ◌++◌, length, Option, Some, codes}
-use Rattle.csyn.specs.declared.span.Span.{Span}
-use Rattle.csyn.specs.declared.cause.Cause.{Cause}
-use Rattle.fileset.specs.Told.{Held, content, Tells, IsSameButFor, IsCutShort, AppendsFront}
-use Rattle.prutrace.specs.Text.{events_text}
+-- What the program leaves, and the cause of each refusal.
+use Rattle.std.specs.Prelude.{◌≡◌, ◌≢◌, ℕ, List, [], ◌∷◌, Option}
+use Rattle.std.specs.String.{string_bytes}
+use Rattle.fileset.specs.Told.{Held, Tells, IsSameFiles, AppendsFront}
+use Rattle.fileset.specs.Faults.{Rose}
+use Rattle.fileset.specs.FileMap.{NamedFiles}
+use Rattle.modefiles.specs.Reading.{AreWithin, IsNamed, IsMost, IsFirstLong, contents}
+use Rattle.modefiles.specs.Writing.{Wrote, WroteSome, CutsAt, HasTaken, named, sink_name}
+use Rattle.prucc.specs.declared.job.Job.{Job}
+use Rattle.prucc.specs.declared.job.Job.TheVariants.{Run, Sim}
+use Rattle.prucc.specs.declared.refusal.Refusal.{Refusal}
+use Rattle.prucc.specs.declared.refusal.Refusal.TheVariants as refusal
 use Rattle.prucc.specs.declared.status.Status.{Status}
-use Rattle.prucc.specs.declared.status.Status.TheVariants.{Done, Source, Words, ReadFault, WriteFault, TooLong, NoMemory, NotBuilt}
-use Rattle.prucc.specs.Source.{Writes, IsSourceFault, IsUnbuilt}
-use Rattle.prucc.specs.Meaning.{shown_in}
-use Rattle.prucc.specs.Summary.{summary_text}
-use Rattle.prucc.specs.Request.{Asked, Asks, events_name}
+use Rattle.prucc.specs.declared.status.Status.TheVariants.{Done, Source, Words, Script, ReadFault, WriteFault, TooLong, Elf, NoMemory, NotBuilt}
+use Rattle.prucc.specs.declared.work.Work.{Work}
+use Rattle.prucc.specs.Job.{Asks, inputs}
+use Rattle.prucc.specs.Sources.{RunMakes, RunRefuses}
+use Rattle.prucc.specs.Executables.{SimMakes, SimRefuses}
 
--- the words ask for a run of which this holds
-abbrev pub AskFor : List (List ℕ) → (Asked → Type 0) → Type 0
-AskFor words P = (r : Asked) × Asks words r × P r
+-- the words ask for a job of which this holds
+abbrev pub AskFor : List (List ℕ) → (Job → Type 0) → Type 0
+AskFor words P = (job : Job) × Asks words job × P job
 
--- each file has its most bytes at most
-pub record AreWithin (script zero one : List ℕ) : Type 0 where
-  pub script_within : length script ≤ 1048576
-  pub zero_within : length zero ≤ 65536
-  pub one_within : length one ≤ 65536
+-- the files that the job makes of the texts that it has read, and its lines for the user
+abbrev pub Makes : Job → List (List ℕ) → NamedFiles → List ℕ → Type 0
+Makes (Run r) (zero ∷ one ∷ script ∷ []) files lines = RunMakes r zero one script files lines
+Makes (Sim r t) (zero ∷ one ∷ script ∷ []) files lines = SimMakes r t zero one script files lines
+Makes job other files lines = ⊥
 
--- the script is empty, and the two sources have the form and write these numbers
-pub record IsBuilt (script zero one ks0 ks1 : List ℕ) : Type 0 where
-  pub within : AreWithin script zero one
-  pub no_script : script ≡ []
-  pub writes_zero : Writes zero ks0
-  pub writes_one : Writes one ks1
+-- why it makes nothing of them
+abbrev pub Refuses : Job → List (List ℕ) → Refusal → Type 0
+Refuses (Run r) (zero ∷ one ∷ script ∷ []) refusal = RunRefuses r zero one script refusal
+Refuses (Sim r t) (zero ∷ one ∷ script ∷ []) refusal = SimRefuses r zero one script refusal
+Refuses job other refusal = ⊥
 
--- the place of a file's first byte
-abbrev pub first_place : Span
-first_place = record { line = 1; column = 1 }
+-- The words ask for this job, and the files that it reads hold these texts, of their most bytes at most.
+pub record IsGiven (words : List (List ℕ)) (held now : Option Held) (job : Job) (texts : List (List ℕ)) : Type 0 where
+  pub asks : Asks words job
+  pub within : AreWithin (inputs job) texts
+  pub read : Tells held now (λ before _. texts ≡ contents before (inputs job))
 
--- The first of the three files that isn't built yet, and where: the script, where it isn't empty, then the sources.
-pub data NotBuiltAt (r : Asked) (script zero one name : List ℕ) (span : Span) : Type 0 where
-  OfScript : (some : script ≢ []) (file : name ≡ r.script) (place : span ≡ first_place) → NotBuiltAt r script zero one name span
-  OfZero : (no_script : script ≡ []) (unbuilt : IsUnbuilt zero span) (file : name ≡ r.zero) → NotBuiltAt r script zero one name span
-  OfOne : (no_script : script ≡ []) (ks : List ℕ) (writes_zero : Writes zero ks) (unbuilt : IsUnbuilt one span)
-      (file : name ≡ r.one) → NotBuiltAt r script zero one name span
+-- The words ask for a job that makes these files, and lines, of what was held.
+pub record IsMade (words : List (List ℕ)) (held now : Option Held) (files : NamedFiles) (lines : List ℕ) : Type 0 where
+  pub job : Job
+  pub texts : List (List ℕ)
+  pub given : IsGiven words held now job texts
+  pub makes : Makes job texts files lines
 
--- The first of the two sources that breaks a rule, by its core, with the rule and the place. The script is empty, and the source of
--- core 1 is judged behind a source of core 0 that is built.
-pub data BrokenAt (script zero one : List ℕ) (core : ℕ) (span : Span) (cause : Cause) : Type 0 where
-  InZero : (no_script : script ≡ []) (is_zero : core ≡ 0) (fault : IsSourceFault zero span cause) → BrokenAt script zero one core span cause
-  InOne : (no_script : script ≡ []) (ks : List ℕ) (writes_zero : Writes zero ks) (is_one : core ≡ 1)
-      (fault : IsSourceFault one span cause) → BrokenAt script zero one core span cause
+-- The whole answer: the files are written, no other file has changed, and the sink has taken the lines.
+pub record Finishes (words : List (List ℕ)) (held now : Option Held) (taken later : Option (List ℕ)) : Type 0 where
+  pub files : NamedFiles
+  pub lines : List ℕ
+  pub made : IsMade words held now files lines
+  pub wrote : Tells held now (Wrote files)
+  pub took : HasTaken lines taken later
 
--- the first file, in the order in which they are read, that has more than its most bytes
-pub data LongAt (r : Asked) (script zero one name : List ℕ) (max : ℕ) : Type 0 where
-  LongZero : (file : name ≡ r.zero) (most : max ≡ 65536) (long : 65536 < length zero) → LongAt r script zero one name max
-  LongOne : (zero_within : length zero ≤ 65536) (file : name ≡ r.one) (most : max ≡ 65536) (long : 65536 < length one)
-      → LongAt r script zero one name max
-  LongScript : (zero_within : length zero ≤ 65536) (one_within : length one ≤ 65536) (file : name ≡ r.script) (most : max ≡ 1048576)
-      (long : 1048576 < length script) → LongAt r script zero one name max
-
--- the same of the files that were held
-abbrev pub IsBuiltFrom : Held → Asked → List ℕ → List ℕ → Type 0
-IsBuiltFrom before r ks0 ks1 = IsBuilt (content before r.script) (content before r.zero) (content before r.one) ks0 ks1
-
-abbrev pub AreWithinFrom : Held → Asked → Type 0
-AreWithinFrom before r = AreWithin (content before r.script) (content before r.zero) (content before r.one)
-
-abbrev pub IsNotBuiltFrom : Held → Asked → List ℕ → Span → Type 0
-IsNotBuiltFrom before r name span = AreWithinFrom before r × NotBuiltAt r (content before r.script) (content before r.zero)
-    (content before r.one) name span
-
-abbrev pub IsBrokenFrom : Held → Asked → ℕ → Span → Cause → Type 0
-IsBrokenFrom before r core span cause = AreWithinFrom before r
-    × BrokenAt (content before r.script) (content before r.zero) (content before r.one) core span cause
-
-abbrev pub IsLongFrom : Held → Asked → List ℕ → ℕ → Type 0
-IsLongFrom before r name max = LongAt r (content before r.script) (content before r.zero) (content before r.one) name max
-
--- a core's number
-abbrev pub IsCore : ℕ → Type 0
-IsCore core = (core ≡ 0) ⊎ (core ≡ 1)
-
--- the text of the events of both sources' meanings, as far as so many cycles show them
-abbrev pub events_file : ℕ → List ℕ → List ℕ → List ℕ
-events_file cycles ks0 ks1 = events_text (shown_in cycles ks0) (shown_in cycles ks1)
-
--- the file of events is written, and no other file has changed
-pub record WroteEvents (r : Asked) (ks0 ks1 : List ℕ) (before after : Held) : Type 0 where
-  pub built : IsBuiltFrom before r ks0 ks1
-  pub written : after (events_name r) ≡ Some (events_file r.cycles ks0 ks1)
-  pub others : IsSameButFor (events_name r) before after
-
--- a sink that has taken this and nothing else, if it tells
-abbrev pub HasTaken : List ℕ → Option (List ℕ) → Option (List ℕ) → Type 0
-HasTaken text taken now = Tells taken now (λ old new. new ≡ old ++ text)
+-- The words ask for a job that makes nothing of what was held, for this cause.
+pub record IsRefused (words : List (List ℕ)) (held now : Option Held) (refusal : Refusal) : Type 0 where
+  pub job : Job
+  pub texts : List (List ℕ)
+  pub given : IsGiven words held now job texts
+  pub refuses : Refuses job texts refusal
 
 abbrev pub IsUntouched : Option (List ℕ) → Option (List ℕ) → Type 0
-IsUntouched taken now = Tells taken now (λ old new. new ≡ old)
+IsUntouched taken later = Tells taken later (λ old new. new ≡ old)
 
--- The whole answer: the file of events, and the two lines.
-pub record Finishes (r : Asked) (taken now : Option (List ℕ)) (before after : Held) : Type 0 where
-  pub ks0 : List ℕ
-  pub ks1 : List ℕ
-  pub wrote : WroteEvents r ks0 ks1 before after
-  pub lines : HasTaken (summary_text r.cycles ks0 ks1) taken now
+-- A write failed: of a file, which may be cut short, or of the lines, of which the sink has taken a front, behind all files.
+pub data OutputFailed (words : List (List ℕ)) (name : List ℕ) (held now : Option Held) (faults after : ℕ)
+    (taken later : Option (List ℕ)) (sink_faults sink_after : ℕ) : Type 0 where
+  AtFile : (files : NamedFiles) (lines : List ℕ) (made : IsMade words held now files lines) (rose : Rose faults after)
+      (left : Tells held now (CutsAt files name)) (untouched : IsUntouched taken later)
+      → OutputFailed words name held now faults after taken later sink_faults sink_after
+  AtSink : (files : NamedFiles) (lines : List ℕ) (made : IsMade words held now files lines) (is_sink : name ≡ sink_name)
+      (rose : Rose sink_faults sink_after) (wrote : Tells held now (Wrote files))
+      (front : Tells taken later (λ old new. AppendsFront old lines new))
+      → OutputFailed words name held now faults after taken later sink_faults sink_after
 
--- The write of the events failed: no other file has changed, and that one is as it was or cut short.
-pub record FailedFile (r : Asked) (before after : Held) : Type 0 where
-  pub ks0 : List ℕ
-  pub ks1 : List ℕ
-  pub built : IsBuiltFrom before r ks0 ks1
-  pub cut_short : IsCutShort (events_file r.cycles ks0 ks1) (before (events_name r)) (after (events_name r))
-  pub others : IsSameButFor (events_name r) before after
+-- Memory was wanting: before the first write, or at a write, and then the files before it are written.
+pub data MemoryWanted (words : List (List ℕ)) (held now : Option Held) : Type 0 where
+  BeforeWrites : (same : Tells held now IsSameFiles) → MemoryWanted words held now
+  AtWrite : (files : NamedFiles) (lines : List ℕ) (made : IsMade words held now files lines) (some : Tells held now (WroteSome files))
+      → MemoryWanted words held now
 
--- The sink failed: the file of events is whole, and the sink has taken a front of the two lines.
-pub record FailedSink (r : Asked) (taken now : Option (List ℕ)) (before after : Held) : Type 0 where
-  pub ks0 : List ℕ
-  pub ks1 : List ℕ
-  pub wrote : WroteEvents r ks0 ks1 before after
-  pub front : Tells taken now (λ old new. AppendsFront old (summary_text r.cycles ks0 ks1) new)
-
--- the files that a run reads
-abbrev pub IsInput : Asked → List ℕ → Type 0
-IsInput r name = (name ≡ r.zero) ⊎ ((name ≡ r.one) ⊎ (name ≡ r.script))
-
--- such a file, and its most bytes
-abbrev pub IsMost : Asked → List ℕ → ℕ → Type 0
-IsMost r name max = ((name ≡ r.zero) × (max ≡ 65536)) ⊎ (((name ≡ r.one) × (max ≡ 65536)) ⊎ ((name ≡ r.script) × (max ≡ 1048576)))
-
--- the name that stands for the sink
-abbrev pub sink_name : List ℕ
-sink_name = codes "-"
-
--- a refusal before the first write
+-- a refusal before the first write, other than want of memory
 abbrev pub IsBeforeWrites : Status → Type 0
 IsBeforeWrites Done = ⊥
-IsBeforeWrites (Source core span cause) = Unit {0}
-IsBeforeWrites Words = Unit {0}
-IsBeforeWrites (ReadFault name) = Unit {0}
 IsBeforeWrites (WriteFault name) = ⊥
-IsBeforeWrites NoMemory = Unit {0}
-IsBeforeWrites (TooLong name max) = Unit {0}
-IsBeforeWrites (NotBuilt name span) = Unit {0}
+IsBeforeWrites NoMemory = ⊥
+IsBeforeWrites other = Unit {0}
 
 -- a refusal that isn't the sink's
 abbrev pub IsBeforeSink : Status → Type 0
 IsBeforeSink Done = ⊥
-IsBeforeSink (Source core span cause) = Unit {0}
-IsBeforeSink Words = Unit {0}
-IsBeforeSink (ReadFault name) = Unit {0}
 IsBeforeSink (WriteFault name) = name ≢ sink_name
-IsBeforeSink NoMemory = Unit {0}
-IsBeforeSink (TooLong name max) = Unit {0}
-IsBeforeSink (NotBuilt name span) = Unit {0}
+IsBeforeSink other = Unit {0}
+
+-- ---- inner words of `top`
+
+-- what is to be written, and the files are as they were
+pub record IsPlanned (words : List (List ℕ)) (held now : Option Held) (work : Work) : Type 0 where
+  pub made : IsMade words held now (named work.outputs.items) (string_bytes work.lines)
+  pub same : Tells held now IsSameFiles
+
+-- why nothing is to be written
+abbrev pub PlanFails : List (List ℕ) → Option Held → Option Held → ℕ → ℕ → Status → Type 0
+PlanFails words held now faults after Done = ⊥
+PlanFails words held now faults after Words = (job : Job) → Asks words job → ⊥
+PlanFails words held now faults after (ReadFault name) = AskFor words (λ job. IsNamed (inputs job) name × Rose faults after)
+PlanFails words held now faults after (TooLong name max) =
+    AskFor words (λ job. IsMost (inputs job) name max × Tells held now (λ before _. IsFirstLong before (inputs job) name max))
+PlanFails words held now faults after (Source core span cause) = IsRefused words held now (refusal.Source core span cause)
+PlanFails words held now faults after (Script line cause) = IsRefused words held now (refusal.Script line cause)
+PlanFails words held now faults after (Elf name offset cause) = IsRefused words held now (refusal.Elf name offset cause)
+PlanFails words held now faults after (NotBuilt name span) = IsRefused words held now (refusal.NotBuilt name span)
+PlanFails words held now faults after (WriteFault name) = ⊥
+PlanFails words held now faults after NoMemory = Unit {0}
+
+-- neither files nor sink have changed
+pub record IsSame (held now : Option Held) (taken later : Option (List ℕ)) : Type 0 where
+  pub files : Tells held now IsSameFiles
+  pub sink : IsUntouched taken later
+
+-- why the words aren't done
+abbrev pub Fails : List (List ℕ) → Option Held → Option Held → ℕ → ℕ → Option (List ℕ) → Option (List ℕ) → ℕ → ℕ → Status → Type 0
+Fails words held now faults after taken later sink_faults sink_after Done = ⊥
+Fails words held now faults after taken later sink_faults sink_after (WriteFault name) =
+    OutputFailed words name held now faults after taken later sink_faults sink_after
+Fails words held now faults after taken later sink_faults sink_after NoMemory = MemoryWanted words held now × IsUntouched taken later
+Fails words held now faults after taken later sink_faults sink_after other =
+    PlanFails words held now faults after other × IsSame held now taken later

@@ -6,8 +6,9 @@ pub mod Part
 pub mod Meaning
 pub mod Code
 pub mod Run
-pub mod Request
+pub mod Job
 pub mod Summary
+pub mod Sources
+pub mod Executables
+pub mod StatusOf
 pub mod Answers
-pub mod StatusNumber
-pub mod RunAnswer

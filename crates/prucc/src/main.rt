@@ -2,13 +2,15 @@
 #![tactic(auto)]
 
 mod code;
+mod executables;
 mod form;
+mod job;
 pub mod laws;
 pub mod machine;
-mod name;
-mod request;
+mod refusal;
 mod run;
 mod source;
+mod sources;
 mod status;
 mod summary;
 #[cfg(test)]
@@ -18,6 +20,7 @@ mod top;
 mod tree_tests;
 #[cfg(test)]
 mod tree_text;
+mod work;
 
 use fileset::{HostFiles, HostSink};
 use status::Status;

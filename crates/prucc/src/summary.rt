@@ -1,6 +1,6 @@
-ghost use Rattle.std.specs.Prelude.{◌≡◌, ◌++◌, length, OnOk};
+ghost use Rattle.std.specs.Prelude.{◌≡◌, ◌++◌, OnOk};
 ghost use Rattle.std.specs.String.{string_bytes};
-ghost use Rattle.prucc.specs.Summary.{stop_text, core_line};
+ghost use Rattle.prucc.specs.Summary.{stop_text, line_of};
 
 use crate::machine::Stop;
 use crate::run::Outcome;
@@ -19,8 +19,7 @@ fn stop_text(stop: Stop) -> &'static str
 
 /// Puts a core's line behind the text.
 pub fn push_core_line(text: &mut String, core: u8, outcome: &Outcome) -> Result<(), Memory>
-    ensures { OnOk result (string_bytes text.new ≡ string_bytes text.old
-        ++ core_line core (length outcome.now.trace.items) outcome.now.count outcome.now.stop) }
+    ensures { OnOk result (string_bytes text.new ≡ string_bytes text.old ++ line_of core outcome.now) }
 {
     let events = outcome.trace.len();
     let instructions = outcome.count;

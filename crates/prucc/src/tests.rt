@@ -109,6 +109,16 @@ fn runs_and_refusals(rt: HostRuntime) -> Result<(), Fail> {
             ..Case::run(FIVE, 6, "read A")
         },
         Case {
+            words: &["sim", "A", "B", "H", "100", "OUT"],
+            ..Case::run(FIVE, 9, "elf A 0 Header")
+        },
+        Case {
+            words: &["sim", "A", "B", "H", "100", "OUT", "--table", "2"],
+            failing_call: 2,
+            ..Case::run(FIVE, 6, "read B")
+        },
+        Case::words(&["sim", "A", "B", "H", "100", "OUT", "--table", "3"]),
+        Case {
             failing_call: 4,
             ..Case::run(FIVE, 7, "write OUT.events")
         },

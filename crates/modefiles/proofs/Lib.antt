@@ -1,0 +1,3 @@
+pub mod Told
+pub mod InTurn
+pub mod Since
