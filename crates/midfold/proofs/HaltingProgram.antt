@@ -29,5 +29,10 @@ pub halting_whole : (f : Function) (node : ℕ) (o : Op) → f.nodes ≡ (node, 
     → f.signature.result ≡ None → is_whole (record { functions = f ∷ []; objects = []; regions = 0; main = 0 }) ≡ true
 halting_whole f node o at kind none nothing =
     subst (λ ns. is_whole (record { functions = record f { nodes = ns } ∷ []; objects = []; regions = 0; main = 0 }) ≡ true) (sym at)
-    (subst (λ k. is_whole (record { functions = record f { nodes = (node, record o { kind = k }) ∷ [] } ∷ []; objects = []; regions = 0; main = 0 }) ≡ true)
+    (subst (λ k. is_whole (record {
+      functions = record f { nodes = (node, record o { kind = k }) ∷ [] } ∷ [];
+      objects = [];
+      regions = 0;
+      main = 0;
+    }) ≡ true)
     (sym kind) (with-nodes f.signature f.registers f.labels node o.line none nothing))

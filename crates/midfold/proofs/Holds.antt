@@ -29,7 +29,8 @@ use Rattle.midcode.specs.declared.op.OpKind.TheVariants as op
 use Rattle.midcode.specs.Operation.{writes, listed}
 use Rattle.midcode.specs.Value.{unary_value, binary_value}
 use Rattle.midcode.specs.Program.{Program}
-use Rattle.midcode.specs.Machine.{Wild, Misaligned, OutsideWindows, NotOwn, OutsideObjects, MoreTurns, FewerTurns, Frame, Caller, State, Does}
+use Rattle.midcode.specs.Machine.{Wild, Misaligned, OutsideWindows, NotOwn, OutsideObjects}
+use Rattle.midcode.specs.Machine.{MoreTurns, FewerTurns, Frame, Caller, State, Does}
 use Rattle.midcode.specs.Machine.{giving, in_turn, sure, get, with_register, onwards, are_in_objects}
 use Rattle.midcode.specs.Machine.{bytes_at, stored, load, store, show, read_from, read, allowed}
 use Rattle.midcode.specs.Machine as machine

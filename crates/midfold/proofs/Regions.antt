@@ -11,7 +11,8 @@ use Rattle.midcode.specs.Function.{Function, kinds}
 use Rattle.midcode.specs.Program.{Program}
 use Rattle.midcode.specs.Structure.{skeleton}
 use Rattle.midcode.specs.Meaning.{function_at, kinds_of_function}
-use Rattle.midcode.specs.Region.{is_plain_op, is_straight_op, are_all, is_function_so, up_to_leave, inside_of, is_region_so, is_plain, is_straight}
+use Rattle.midcode.specs.Region.{is_plain_op, is_straight_op, are_all, is_function_so}
+use Rattle.midcode.specs.Region.{up_to_leave, inside_of, is_region_so, is_plain, is_straight}
 use Rattle.midopt.specs.Better.{Both, IsBetter}
 
 abbrev Test : Type 0

@@ -23,7 +23,8 @@ use Rattle.midcode.specs.Operation.{is_value, reads}
 use Rattle.midcode.specs.Value.{unary_value, binary_value}
 use Rattle.midcode.specs.Function.{Function, kinds, kinds_of, standing, size_at, fits, IsValidFunction}
 use Rattle.midcode.specs.Program.{Program, Outside, is_linked, ends_well}
-use Rattle.midcode.specs.Meaning.{function_at, kinds_of_function, registers_of, width_of_size, standing_at, width_of, set, value, effect, charged}
+use Rattle.midcode.specs.Meaning.{function_at, kinds_of_function, registers_of, width_of_size, standing_at}
+use Rattle.midcode.specs.Meaning.{width_of, set, value, effect, charged}
 use Rattle.midcode.specs.Machine.{State, Does, in_turn, get, onwards}
 use Rattle.midcode.specs.Machine as machine
 use Rattle.midcode.specs.Structure.{skeleton}
@@ -165,8 +166,10 @@ module _ (q p : Program) (a : List ℕ) (e : Places) (edit : IsEdit q p e) (f x 
   two o to left right None (Some b) j is also made =
       subst (λ i. Both-do (effect q a (op.Binary o to left (operand.Register right))) (effect p a i))
       (same (op.Binary o to left (operand.Constant b)) j made)
-      (subst (λ z. Alike (Like e) (and_then (machine.known (s.frame.registers left.0) s) (summed q o to (operand.Register right)))
-      (and_then (machine.known z t) (summed p o to (operand.Constant b)))) (sym (at.frame.registers left.0 (seen left.0))) (either (s.frame.registers left.0)))
+      (subst (λ z. Alike (Like e)
+      (and_then (machine.known (s.frame.registers left.0) s) (summed q o to (operand.Register right)))
+      (and_then (machine.known z t) (summed p o to (operand.Constant b)))) (sym (at.frame.registers left.0 (seen left.0)))
+      (either (s.frame.registers left.0)))
     where
       same : (i j : OpKind) → Some i ≡ Some j → i ≡ j
       same i j e = cc

@@ -38,7 +38,8 @@ set-past (x ∷ l) zero n past = absurd (omega (arith, past))
 set-past (x ∷ l) (suc i) n past = ap (λ m. x ∷ m) (set-past l i n (omega (arith, past)))
 
 -- a count behind a change at one place
-at-set : (l : List ℕ) (i r n : ℕ) → count_at (slice_set l i n) r < most → count_at (slice_set l i n) r ≡ (if i == r then n else count_at l r)
+at-set : (l : List ℕ) (i r n : ℕ) → count_at (slice_set l i n) r < most
+    → count_at (slice_set l i n) r ≡ (if i == r then n else count_at l r)
 at-set [] i r n less = absurd (omega (arith, less))
 at-set (x ∷ l) zero zero n less = refl
 at-set (x ∷ l) zero (suc r) n less =
