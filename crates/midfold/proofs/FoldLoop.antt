@@ -1,6 +1,6 @@
 -- Going over the operations, with what is known before each.
-use Rattle.std.proofs.Common.{◌≡◌, ℕ, ◌+◌, ◌<◌, ◌≤◌, true, false, List, [], ◌∷◌, ◌++◌, ◌&&◌, length, reverse, replicate}
-use Rattle.std.proofs.Common.{Option, Some, None, refl, sym, subst, ap, ◌∙◌, arith, append-nil, append_assoc, length-append}
+use Rattle.std.proofs.Common.{◌≡◌, ℕ, ◌+◌, ◌<◌, ◌≤◌, true, List, [], ◌∷◌, ◌++◌, ◌&&◌, length, reverse, replicate}
+use Rattle.std.proofs.Common.{Option, Some, None, refl, sym, subst, ap, ◌∙◌, arith, append-nil, append_assoc}
 use Rattle.std.specs.Prelude.{IfSome}
 use Rattle.std.specs.List.{list_all}
 use Rattle.std.proofs.lemmas.Bool.{and_parts}
@@ -15,7 +15,7 @@ use Rattle.midcode.proofs.Valid.{valid-replaced}
 use Rattle.midopt.specs.Better.{IsBetterFunction}
 use Rattle.midopt.specs.Tidy.{is_plain_sum, IsFolded}
 use Rattle.midopt.proofs.FoldedLemmas.{all_folded, folded-is, folded-more}
-use Rattle.midopt.proofs.MarkLemmas.{first-some, first-none, first-node, empty-list}
+use Rattle.midopt.proofs.MarkLemmas.{first-some, first-none, empty-list}
 use Rattle.midopt.proofs.Relation.{function-same, function-more}
 use Rattle.midfold.specs.Folding.{improved, or_itself, improved_kind, noted}
 use Rattle.midfold.proofs.Tracks.{Tracks, tracks-first, tracks-more, improved-folded}
@@ -121,8 +121,8 @@ module _ (old now : Function) (held : List (Option ℕ)) (rounds node index : �
   here = record { front = w.front; op = o; back = rest; at = stands }
 
   pub again : (next : Function) → AtNode now.nodes node (λ front o back. next ≡ record now {
-        nodes = front ++ (node, better-op now held o) ∷ back;
-      })
+    nodes = front ++ (node, better-op now held o) ∷ back;
+  })
       → IsNode next.nodes node
   again next is = record {
     front = w.front;
@@ -135,8 +135,8 @@ module _ (old now : Function) (held : List (Option ℕ)) (rounds node index : �
   few-rounds valid = omega (arith, w.few, w.left, valid.few)
 
   pub folding-next : (next : Function) → AtNode now.nodes node (λ front o back. next ≡ record now {
-        nodes = front ++ (node, better-op now held o) ∷ back;
-      })
+    nodes = front ++ (node, better-op now held o) ∷ back;
+  })
       → (k : Op) → AtNode next.nodes node (λ _ o _. k ≡ o)
       → (more : List (Option ℕ)) (round : ℕ) → more ≡ noted next.registers k.kind held → round ≤ rounds + 1
       → (on : Option ℕ) → AtNode next.nodes node (λ _ _ back. on ≡ first_id back) → IfSome on (IsNode next.nodes)

@@ -4,8 +4,7 @@ use Rattle.std.proofs.Common.{take, reverse, Option, Some, None, replicate, refl
 use Rattle.std.proofs.Common.{length, nat_lt, if◌then◌else◌}
 use Rattle.std.proofs.lemmas.Bool.{true≢false}
 use Rattle.std.proofs.lemmas.List.{reverse-append}
-use Rattle.behaviour.specs.declared.stop.Stop.TheVariants.{Ended}
-use Rattle.behaviour.specs.Ran.{Ran, Done, Stopped, and_then}
+use Rattle.behaviour.specs.Ran.{Ran, Done, and_then}
 use Rattle.prunum.specs.Bytes.{little_bytes, little_number}
 use Rattle.prunum.specs.Number.{wrap, wrap_signed, sext}
 use Rattle.prunum.specs.Width.{byte_count}
@@ -30,18 +29,19 @@ use Rattle.midcode.specs.declared.op.OpKind.TheVariants as op
 use Rattle.midcode.specs.Operation.{writes, listed}
 use Rattle.midcode.specs.Value.{unary_value, binary_value}
 use Rattle.midcode.specs.Program.{Program}
-use Rattle.midcode.specs.Machine.{Wild, Misaligned, OutsideWindows, NotOwn, OutsideObjects, MoreTurns, FewerTurns, Frame, Caller, State, Does}
-use Rattle.midcode.specs.Machine.{giving, with_state, in_turn, sure, get, with_register, onwards, at_place, are_in_objects}
+use Rattle.midcode.specs.Machine.{Wild, Misaligned, OutsideWindows, NotOwn, OutsideObjects}
+use Rattle.midcode.specs.Machine.{MoreTurns, FewerTurns, Frame, Caller, State, Does}
+use Rattle.midcode.specs.Machine.{giving, in_turn, sure, get, with_register, onwards, are_in_objects}
 use Rattle.midcode.specs.Machine.{bytes_at, stored, load, store, show, read_from, read, allowed}
 use Rattle.midcode.specs.Machine as machine
-use Rattle.midcode.specs.Meaning.{function_at, kinds_of_function, registers_of, running, width_of, set, value, plain_address}
+use Rattle.midcode.specs.Meaning.{function_at, registers_of, running, width_of, set, value, plain_address}
 use Rattle.midcode.specs.Meaning.{volatile_address, core_place, is_met, standing_at, go_to, turns_taken, count_turn, taking, passing}
-use Rattle.midcode.specs.Meaning.{branch, get_all, call, get_option, hand_over, halt, back_to, return_to, effect, charged, performed, step}
-use Rattle.midcode.specs.Meaning.{start, first_frame}
-use Rattle.midopt.specs.Tidy.{is_register, is_result, number_of, known}
+use Rattle.midcode.specs.Meaning.{branch, get_all, call, get_option, hand_over, return_to, effect, charged, performed, step}
+use Rattle.midcode.specs.Meaning.{start}
+use Rattle.midopt.specs.Tidy.{is_result, number_of, known}
 use Rattle.midopt.proofs.Effects.{ops}
 use Rattle.midopt.proofs.Runs.{IsKept}
-use Rattle.midfold.specs.Folding.{width_at, cut}
+use Rattle.midfold.specs.Folding.{cut}
 use Rattle.midfold.proofs.Leads.{Leads, then-leads, sure-leads, led}
 
 -- ---- lists

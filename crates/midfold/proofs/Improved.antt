@@ -1,7 +1,6 @@
 -- An operation and what stands in its place: both only compute a value, and the new one costs no more.
-use Rattle.std.proofs.Common.{◌≡◌, ℕ, ◌+◌, ◌*◌, ◌≤◌, Bool, true, false, ◌&&◌, List, [], ◌∷◌, Option, Some, None}
+use Rattle.std.proofs.Common.{◌≡◌, ℕ, ◌+◌, ◌*◌, ◌≤◌, Bool, true, false, ◌&&◌, List, Option, Some, None}
 use Rattle.std.proofs.Common.{refl, sym, subst, ap, ◌∙◌, arith, nat_le, if◌then◌else◌}
-use Rattle.std.specs.List.{list_all}
 use Rattle.std.proofs.lemmas.Bool.{and_parts}
 use Rattle.prunum.specs.declared.width.Width.{Width}
 use Rattle.prunum.specs.Number.{wrap_signed, sext}
@@ -13,7 +12,7 @@ use Rattle.midcode.specs.declared.op.Operand.{Operand}
 use Rattle.midcode.specs.declared.op.Operand.TheVariants as operand
 use Rattle.midcode.specs.declared.op.OpKind.{OpKind}
 use Rattle.midcode.specs.declared.op.OpKind.TheVariants as op
-use Rattle.midcode.specs.Operation.{is_value, reads, writes}
+use Rattle.midcode.specs.Operation.{is_value, writes}
 use Rattle.midcode.specs.Value.{unary_value, binary_value}
 use Rattle.midcode.specs.Function.{Function, has, each_of, fits}
 use Rattle.midcode.specs.Program.{Outside, is_linked}

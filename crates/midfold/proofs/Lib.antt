@@ -7,3 +7,6 @@ pub mod FoldLoop
 pub mod NumberLemmas
 pub mod WholeLemmas
 pub mod Samples
+pub mod UsesLemmas
+pub mod HaltingProgram
+pub mod Regions

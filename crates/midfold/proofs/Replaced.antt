@@ -1,14 +1,14 @@
 -- An operation on known numbers is replaced: the function may stand for the one before.
 use Rattle.std.proofs.Common.{◌≡◌, ℕ, zero, suc, ◌+◌, ◌≤◌, ◌==◌, Bool, true, false, not, ◌&&◌, ◌||◌, inr, inl, List, [], ◌∷◌, ◌++◌}
-use Rattle.std.proofs.Common.{length, take, reverse, Option, Some, None, refl, sym, subst, ap, ◌∙◌, arith, le_refl}
-use Rattle.std.proofs.Common.{slice_get, slice_set, if◌then◌else◌, sum_by}
+use Rattle.std.proofs.Common.{length, take, reverse, Option, Some, None, refl, sym, subst, ap, ◌∙◌, arith}
+use Rattle.std.proofs.Common.{slice_get, if◌then◌else◌, sum_by}
 use Rattle.std.specs.List.{list_all, list_any}
 use Rattle.std.proofs.Math.Seq.{take-append_seam}
 use Rattle.std.proofs.lemmas.Bool.{and_parts, and_from, or_parts, or_from, eqb-true, eqb-false, true≢false}
 use Rattle.std.proofs.lemmas.List.{map-append}
 use Rattle.std.proofs.lemmas.List.Folds.{list_all-append, list_any-append}
 use Rattle.std.proofs.lemmas.List.Sums.{sum_by-append, sum_by-cons}
-use Rattle.behaviour.specs.Ran.{and_then, Done}
+use Rattle.behaviour.specs.Ran.{and_then}
 use Rattle.prunum.specs.Number.{wrap, wrap_signed, sext}
 use Rattle.prunum.specs.declared.width.Width.{Width}
 use Rattle.prunum.specs.declared.width.Width.TheVariants.{B4}
@@ -19,12 +19,13 @@ use Rattle.midcode.specs.declared.op.Operand.{Operand}
 use Rattle.midcode.specs.declared.op.Operand.TheVariants as operand
 use Rattle.midcode.specs.declared.op.OpKind.{OpKind}
 use Rattle.midcode.specs.declared.op.OpKind.TheVariants as op
-use Rattle.midcode.specs.Operation.{is_value, is_last, reads}
+use Rattle.midcode.specs.Operation.{is_value, reads}
 use Rattle.midcode.specs.Value.{unary_value, binary_value}
 use Rattle.midcode.specs.Function.{Function, kinds, kinds_of, standing, size_at, fits, IsValidFunction}
 use Rattle.midcode.specs.Program.{Program, Outside, is_linked, ends_well}
-use Rattle.midcode.specs.Meaning.{function_at, kinds_of_function, registers_of, width_of_size, standing_at, width_of, set, value, effect, charged}
-use Rattle.midcode.specs.Machine.{State, Does, in_turn, get, giving, onwards}
+use Rattle.midcode.specs.Meaning.{function_at, kinds_of_function, registers_of, width_of_size, standing_at}
+use Rattle.midcode.specs.Meaning.{width_of, set, value, effect, charged}
+use Rattle.midcode.specs.Machine.{State, Does, in_turn, get, onwards}
 use Rattle.midcode.specs.Machine as machine
 use Rattle.midcode.specs.Structure.{skeleton}
 use Rattle.midcode.specs.Cost.{size, charge, multiplies, divides}
@@ -80,8 +81,14 @@ module _ (k j : OpKind) (was : is_value k ≡ true) (now : is_value j ≡ true) 
 
   size-replaced : size j ≤ size k → (front : List OpKind) → sum_by size (front ++ j ∷ back) ≤ sum_by size (front ++ k ∷ back)
   size-replaced less front =
-      omega (arith, less, sum_by-append size front (j ∷ back), sum_by-append size front (k ∷ back), sum_by-cons size k back,
-      sum_by-cons size j back)
+      omega (
+        arith,
+        less,
+        sum_by-append size front (j ∷ back),
+        sum_by-append size front (k ∷ back),
+        sum_by-cons size k back,
+        sum_by-cons size j back,
+      )
 
   any-replaced : (test : OpKind → Bool) → (test k ≡ false → test j ≡ false) → (front : List OpKind)
       → list_any test (front ++ k ∷ back) ≡ false → list_any test (front ++ j ∷ back) ≡ false
@@ -159,8 +166,10 @@ module _ (q p : Program) (a : List ℕ) (e : Places) (edit : IsEdit q p e) (f x 
   two o to left right None (Some b) j is also made =
       subst (λ i. Both-do (effect q a (op.Binary o to left (operand.Register right))) (effect p a i))
       (same (op.Binary o to left (operand.Constant b)) j made)
-      (subst (λ z. Alike (Like e) (and_then (machine.known (s.frame.registers left.0) s) (summed q o to (operand.Register right)))
-      (and_then (machine.known z t) (summed p o to (operand.Constant b)))) (sym (at.frame.registers left.0 (seen left.0))) (either (s.frame.registers left.0)))
+      (subst (λ z. Alike (Like e)
+      (and_then (machine.known (s.frame.registers left.0) s) (summed q o to (operand.Register right)))
+      (and_then (machine.known z t) (summed p o to (operand.Constant b)))) (sym (at.frame.registers left.0 (seen left.0)))
+      (either (s.frame.registers left.0)))
     where
       same : (i j : OpKind) → Some i ≡ Some j → i ≡ j
       same i j e = cc

@@ -7,7 +7,6 @@ use Rattle.midcode.specs.declared.op.BinaryOp.TheVariants as binary
 use Rattle.midcode.specs.declared.op.Operand.TheVariants as operand
 use Rattle.midcode.specs.declared.op.Test.TheVariants as test
 use Rattle.midcode.specs.declared.op.VolatileBase.TheVariants as volatile
-use Rattle.midcode.specs.declared.op.OpKind.{OpKind}
 use Rattle.midcode.specs.declared.op.OpKind.TheVariants as op
 use Rattle.midcode.specs.Value.{binary_value}
 use Rattle.midfold.specs.Folding.{improved, noted}

@@ -1,9 +1,9 @@
 -- A table of numbers that tells what is known behind operations.
-use Rattle.std.proofs.Common.{◌≡◌, ℕ, zero, suc, ◌<◌, ◌≤◌, ◌==◌, Bool, true, false, not, ◌&&◌, List, [], ◌∷◌, ◌++◌, length, Option, Some, None}
-use Rattle.std.proofs.Common.{refl, sym, subst, ap, ◌∙◌, arith, map, replicate, slice_index_or, slice_set, if◌then◌else◌, nat_lt}
+use Rattle.std.proofs.Common.{◌≡◌, ℕ, zero, suc, ◌<◌, ◌==◌, Bool, true, false, ◌&&◌, List, [], ◌∷◌, length, Option, Some, None}
+use Rattle.std.proofs.Common.{refl, sym, ap, ◌∙◌, arith, map, replicate, slice_index_or, slice_set, if◌then◌else◌}
 use Rattle.std.specs.Prelude.{is_some}
 use Rattle.std.specs.List.{list_all}
-use Rattle.std.proofs.lemmas.Bool.{and_parts, and_from, ltb-true}
+use Rattle.std.proofs.lemmas.Bool.{and_parts, ltb-true}
 use Rattle.prunum.specs.Number.{wrap, wrap_signed, sext}
 use Rattle.prunum.specs.declared.width.Width.{Width}
 use Rattle.prunum.specs.declared.width.Width.TheVariants.{B1, B2, B4}
@@ -15,10 +15,10 @@ use Rattle.midcode.specs.declared.op.OpKind.{OpKind}
 use Rattle.midcode.specs.declared.op.OpKind.TheVariants as op
 use Rattle.midcode.specs.Operation.{reads, writes}
 use Rattle.midcode.specs.Value.{unary_value, binary_value}
-use Rattle.midcode.specs.Function.{has, each_of, fits}
+use Rattle.midcode.specs.Function.{has, fits}
 use Rattle.midcode.proofs.Valid.{parts-of}
 use Rattle.midopt.specs.Tidy.{is_result, number_of, known, is_foldable, is_plain_sum}
-use Rattle.midfold.specs.Folding.{width_at, cut, constant, number_at, from_one, from_two, improved, or_itself, improved_kind, cut_number}
+use Rattle.midfold.specs.Folding.{width_at, cut, constant, number_at, from_one, from_two, or_itself, improved_kind, cut_number}
 use Rattle.midfold.specs.Folding.{with_number, noted}
 
 -- the last of the operations comes first

@@ -1,5 +1,5 @@
 -- Of the proof: a table of numbers that can be forgotten all at once.
-use Rattle.std.specs.Prelude.{ℕ, ◌==◌, List, Option, Some, None, if◌then◌else◌}
+use Rattle.std.specs.Prelude.{ℕ, ◌==◌, List, Option, None, if◌then◌else◌}
 use Rattle.midfold.specs.declared.numbers.Noted.{Noted}
 
 -- what is held for each register, and how often all was forgotten

@@ -2,11 +2,14 @@
 #![tactic(auto)]
 
 mod folding;
+mod laws;
 mod numbers;
 #[cfg(test)]
 mod tests;
+mod unread;
 mod whole;
 
-
 pub use folding::fold;
+pub use laws::region_laws;
+pub use unread::take_unread;
 pub use whole::{Tidied, tidy, tidy_function};

@@ -1,7 +1,7 @@
 ghost use Rattle.std.specs.Prelude.{◌≡◌};
 
-use crate::tidy_function;
-use midcode::{BinaryOp, MOST, MidFn, Op, OpKind, Operand, Signature, VReg};
+use crate::{Tidied, tidy, tidy_function};
+use midcode::{BinaryOp, MOST, MidFn, MidProgram, Op, OpKind, Operand, Signature, VReg};
 use prunum::{Memory, Width};
 use std::alloc::Global;
 use std::process::Abort;
@@ -121,5 +121,47 @@ fn constant_over_a_label(rt: HostRuntime) -> Result<(), Fail> {
     tidy_function(rt.alloc(), &mut f)?;
     assert_eq!(rt; found(&f), (true, Some(3)));
     assert_eq!(rt; f.op_count(), 4);
+    Ok(())
+}
+
+// Each value is read by the one before it alone, and the first by none.
+#[test]
+fn long_chain_of_values(rt: HostRuntime) -> Result<(), Fail> {
+    let mut f = begun(rt.alloc(), Width::B4)?;
+    for _ in 0..20_000 {
+        assert!(rt; f.registers().len() < MOST);
+        let _ = f.add_register(Width::B4)?;
+    }
+    for i in 0..20_000 {
+        push_copy(&rt, &mut f, i, i + 1)?;
+    }
+    push_return(&rt, &mut f, 20_001)?;
+    assert_eq!(rt; f.op_count(), 20_001);
+    tidy_function(rt.alloc(), &mut f)?;
+    assert_eq!(rt; f.op_count(), 1);
+    Ok(())
+}
+
+fn halting(rt: &impl Abort, alloc: Global) -> Result<MidProgram, Memory> {
+    let mut f = MidFn::new(
+        alloc,
+        Signature {
+            params: [Width::B4; 8],
+            count: 0,
+            result: None,
+        },
+    )?;
+    assert!(rt; f.op_count() < MOST);
+    f.push(op(OpKind::Halt))?;
+    let mut functions = Vec::new(alloc);
+    functions.push(f)?;
+    Ok(MidProgram::new(functions, Vec::new(alloc), 0, 0))
+}
+
+#[test]
+fn program_is_tidied(rt: HostRuntime) -> Result<(), Fail> {
+    let Tidied { program, done } = tidy(rt.alloc(), halting(&rt, rt.alloc())?);
+    done?;
+    assert_eq!(rt; program.functions().len(), 1);
     Ok(())
 }

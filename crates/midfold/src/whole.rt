@@ -6,8 +6,8 @@ ghost use Rattle.midopt.specs.Better.{IsBetter, IsBetterFunction, AreBetter};
 ghost use Rattle.midopt.specs.Tidy.{IsTidy};
 
 use crate::folding::fold;
+use crate::unread::take_unread;
 use midcode::{MidFn, MidProgram};
-use midopt::remove_idle;
 use prunum::Memory;
 use std::alloc::Global;
 
@@ -17,7 +17,7 @@ pub fn tidy_function(alloc: Global, f: &mut MidFn) -> Result<(), Memory>
     ensures done { OnOk result (IsTidy (kinds f.new)) }
 {
     fold(alloc, f)?;
-    remove_idle(alloc, f)
+    take_unread(alloc, f)
 }
 
 fn tidy_functions(alloc: Global, functions: &mut [MidFn]) -> Result<(), Memory>

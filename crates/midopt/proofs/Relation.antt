@@ -7,7 +7,8 @@ use Rattle.midcode.specs.Function.{Function, kinds}
 use Rattle.midcode.specs.Cost.{size}
 use Rattle.midcode.specs.Program.{Program}
 use Rattle.midopt.specs.Weighed.{Weighed}
-use Rattle.midopt.specs.Better.{IsShown, StandsAs, is_undefined, is_wild, IsBetterRun, IsThinner, Both, IsBetter, placed, IsBetterFunction, AreBetter}
+use Rattle.midopt.specs.Better.{IsShown, StandsAs, is_undefined, is_wild, IsBetterRun}
+use Rattle.midopt.specs.Better.{IsThinner, Both, IsBetter, placed, IsBetterFunction, AreBetter}
 
 -- ---- runs
 

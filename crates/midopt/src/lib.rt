@@ -5,6 +5,8 @@ mod idle;
 mod laws;
 mod marks;
 mod numbers;
+#[cfg(test)]
+mod numbers_tests;
 mod reads;
 #[cfg(test)]
 mod tests;
@@ -12,3 +14,4 @@ mod tests;
 pub use idle::remove_idle;
 pub use laws::{better_laws, idle_laws};
 pub use numbers::{binary_number, unary_number, widened_number};
+pub use reads::{register_of_value, registers_read};
