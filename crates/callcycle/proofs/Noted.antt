@@ -118,13 +118,13 @@ until-more functions n a b u m = record {
   ];
 }
 
-pub until-all : (functions : List (Vec Call)) (o : Option Span) → IsUntil functions (length functions) o
+pub until-all : (functions : List (Vec Call)) (o : Option Span) (n : ℕ) → length functions ≤ n → IsUntil functions n o
     → MatchOption o (HasNoCycle functions) (IsFirst functions)
-until-all functions None u = λ f c i. u.covered f c (caller-within functions f c i.is) i
-until-all functions (Some p) u = record {
+until-all functions None n l u = λ f c i. u.covered f c (omega (arith, l, caller-within functions f c i.is)) i
+until-all functions (Some p) n l u = record {
   caller = u.is.0;
   call = u.is.1;
   in_cycle = u.is.2;
   at = u.is.3;
-  first = λ f c i. u.covered f c (caller-within functions f c i.is) i;
+  first = λ f c i. u.covered f c (omega (arith, l, caller-within functions f c i.is)) i;
 }

@@ -56,11 +56,11 @@ fn note(
     if is_later(least, call.place) {
         return Ok(least);
     }
-    if is_in_cycle(alloc, functions, numbers, caller, call)? {
-        Ok(Some(call.place))
-    } else {
-        Ok(least)
+    let found = is_in_cycle(alloc, functions, numbers, caller, call)?;
+    if found {
+        return Ok(Some(call.place));
     }
+    Ok(least)
 }
 
 fn note_all(
@@ -83,20 +83,42 @@ fn note_all(
     Ok(least)
 }
 
-// The first call between functions of one number.
-fn guess(functions: &[Vec<Call>], numbers: &[usize]) -> Option<(usize, usize)> {
+// The caller and the place of the first call between functions of one number.
+fn guess(functions: &[Vec<Call>], numbers: &[usize]) -> Option<(usize, Span)> {
     let mut least = None;
     let mut at = None;
     for (caller, calls) in functions.iter().enumerate() {
         let number = number_of(numbers, caller);
-        for (index, call) in calls.iter().enumerate() {
+        for call in calls {
             if number_of(numbers, call.callee as usize) == number && !is_later(least, call.place) {
                 least = Some(call.place);
-                at = Some((caller, index));
+                at = Some((caller, call.place));
             }
         }
     }
     at
+}
+
+// What is found of a function's calls at one place.
+fn note_place(
+    alloc: Global,
+    functions: &[Vec<Call>],
+    numbers: &[usize],
+    caller: usize,
+    calls: &[Call],
+    place: Span,
+) -> Result<Option<Span>, AllocError>
+    requires falling { NeverRises functions.now numbers.now }
+    requires are { calls.now ≡ calls_of functions.now caller }
+    ensures { IfOk result (IsFound functions.now) }
+{
+    for call in calls {
+        if call.place == place {
+            let found = note(alloc, functions, numbers, caller, call, None)?;
+            return Ok(found);
+        }
+    }
+    Ok(None)
 }
 
 // What the guess finds: where it is right, no other call needs a search.
@@ -108,13 +130,11 @@ fn guessed(
     requires { NeverRises functions.now numbers.now }
     ensures { IfOk result (IsFound functions.now) }
 {
-    let Some((caller, index)) = guess(functions, numbers) else {
+    let Some((caller, place)) = guess(functions, numbers) else {
         return Ok(None);
     };
-    match calls_of(functions, caller).get(index) {
-        None => Ok(None),
-        Some(call) => note(alloc, functions, numbers, caller, call, None),
-    }
+    let calls = calls_of(functions, caller);
+    note_place(alloc, functions, numbers, caller, calls, place)
 }
 
 /// The place of the first call in the source that stands in a cycle: its callee is its caller or reaches it by calls. `functions` has
