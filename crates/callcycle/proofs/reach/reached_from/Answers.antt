@@ -1,4 +1,4 @@
-use Rattle.std.proofs.Common.{List, ◌++◌, ◌∷◌, [], ℕ, subst, sym, arith}
+use Rattle.std.proofs.Common.{List, ◌++◌, ◌∷◌, [], ℕ, subst, sym, arith, rules}
 use Rattle.callcycle.specs.declared.call.Call.{Call}
 use Rattle.callcycle.specs.Search.{AreTaken}
 use Rattle.callcycle.proofs.Reached.{IsReaching, reaching-begun, reaching-next, reaching-last}
@@ -6,7 +6,9 @@ use Rattle.callcycle.proofs.reach.reached_from.Goals as goal
 
 pub loop-function-init : goal.loop-function-init
 loop-function-init c =
-    reaching-begun c.args.functions.now c.args.from _ _ _ _ c.in_ok-reached.ensures.items c.new-waiting.ensures.items c.in_ok-take.ensures
+    reaching-begun c.args.functions.now c.args.from _ _ _ _
+    (c.in_ok-reached.ensures.items_if_clones_equal (λ y is. search rules))
+    c.new-waiting.ensures.items c.in_ok-take.ensures
 
 pub loop-function-preserved : goal.loop-function-preserved
 loop-function-preserved c =
