@@ -1,12 +1,12 @@
 -- Where no call stands in a cycle, the count of functions that a function reaches falls along each call.
 use Rattle.std.proofs.Common.{◌≡◌, ℕ, zero, suc, ◌+◌, ◌<◌, ◌≤◌, ◌⊎◌, inl, inr, Bool, true, false, ◌&&◌, ◌||◌, List, [], ◌∷◌, length}
-use Rattle.std.proofs.Common.{refl, sym, ap, ◌∙◌, subst, arith, eqb, eq-eqb, get_or}
+use Rattle.std.proofs.Common.{refl, sym, ap, subst, arith, eqb, eq-eqb, get_or}
 use Rattle.std.proofs.lemmas.List.Elements.{Contains-append_left, Contains-append_right, Contains-push}
 use Rattle.std.specs.Prelude.{Contains}
 use Rattle.std.specs.Global.{Vec}
 use Rattle.std.proofs.lemmas.Bool.{cases_lt, eqb-true, false≢true}
 use Rattle.callcycle.specs.declared.call.Call.{Call}
-use Rattle.callcycle.specs.Calls.{calls_of, Reaches, here, calls, InCycle, HasNoCycle, IsDepth, HasDepth}
+use Rattle.callcycle.specs.Calls.{calls_of, Reaches, here, calls, HasNoCycle, IsDepth, HasDepth}
 use Rattle.callcycle.proofs.Reached.{caller-within}
 
 -- ---- truths
@@ -48,7 +48,9 @@ links functions (suc k) u w = links functions k u w || (links functions k u k &&
 has-callee : (cs : List Call) (k : ℕ) (d c : Call) → k < length cs → get_or cs k d ≡ c → has_callee cs c.callee ≡ true
 unfolding has_callee
 has-callee [] k d c l e = absurd (omega (arith, l))
-has-callee (x ∷ cs) zero d c l e = or-left (eqb x.callee c.callee) (has_callee cs c.callee) (eq-eqb x.callee c.callee (ap (λ (y : Call). y.callee) e))
+has-callee (x ∷ cs) zero d c l e =
+    or-left (eqb x.callee c.callee) (has_callee cs c.callee)
+    (eq-eqb x.callee c.callee (ap (λ (y : Call). y.callee) e))
 has-callee (x ∷ cs) (suc k) d c l e = or-right (eqb x.callee c.callee) (has_callee cs c.callee) (has-callee cs k d c (omega (arith, l)) e)
 
 -- a call, by its callee

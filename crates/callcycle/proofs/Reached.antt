@@ -1,6 +1,6 @@
 -- Marking goes on until it has what is reached: each marked function is reached, and it waits or its callees are marked.
-use Rattle.std.proofs.Common.{◌≡◌, ℕ, ◌+◌, ◌<◌, ◌≤◌, ◌⊎◌, inl, inr, Bool, true, false, List, [], ◌∷◌, ◌++◌, length, get_or, replicate}
-use Rattle.std.proofs.Common.{refl, sym, ap, ◌∙◌, subst, arith, length-append, Option, Some, None, slice_get}
+use Rattle.std.proofs.Common.{◌≡◌, ℕ, ◌+◌, ◌<◌, ◌≤◌, ◌⊎◌, inl, inr, Bool, false, List, [], ◌∷◌, ◌++◌, length, replicate}
+use Rattle.std.proofs.Common.{refl, ap, ◌∙◌, subst, arith, Option, Some, None, slice_get}
 use Rattle.std.specs.Prelude.{Contains, slice_index}
 use Rattle.std.specs.Global.{Vec}
 use Rattle.std.proofs.lemmas.List.Elements.{Contains-append_left, Contains-push, Contains-push_cases}
@@ -57,7 +57,8 @@ reaching-next functions from f m m' w w' r t =
         | inl old ↦ elim (r.pending g old) [
           | inl waits ↦ elim (Contains-push_cases w f g waits) [
             | inl before ↦ inl (t.waiting g before)
-            | inr e ↦ inr (subst (λ (x : ℕ). (c : Call) → Contains (calls_of functions x) c → c.callee < length functions → IsMarked m' c.callee) e
+            | inr e ↦ inr (subst
+                (λ (x : ℕ). (c : Call) → Contains (calls_of functions x) c → c.callee < length functions → IsMarked m' c.callee) e
                 (λ c k' l. t.callees c k' (omega (arith, l, r.all))))
           ]
           | inr done ↦ inr (λ c k' l. t.kept c.callee (done c k' l))

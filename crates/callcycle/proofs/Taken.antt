@@ -1,5 +1,5 @@
 -- What marking functions does to the marks, and to the functions that wait.
-use Rattle.std.proofs.Common.{◌≡◌, ℕ, ◌+◌, ◌<◌, ◌≤◌, ◌⊎◌, inl, inr, Bool, true, false, List, [], ◌∷◌, ◌++◌, length, get_or, set, sum_by}
+use Rattle.std.proofs.Common.{◌≡◌, ℕ, ◌+◌, ◌<◌, ◌⊎◌, inl, inr, Bool, true, false, List, [], ◌∷◌, ◌++◌, length, get_or, set, sum_by}
 use Rattle.std.proofs.Common.{refl, sym, ap, ◌∙◌, subst, arith, length-append, length-set, replicate, take}
 use Rattle.std.specs.Prelude.{Contains}
 use Rattle.std.proofs.lemmas.Bool.{cases_eq, cases_lt, false≢true}
@@ -8,7 +8,7 @@ use Rattle.std.proofs.lemmas.List.Elements.{Contains-append_left, Contains-push,
 use Rattle.std.proofs.lemmas.List.Sums.{sum_by-set}
 use Rattle.std.proofs.lemmas.List.{length-replicate}
 use Rattle.callcycle.specs.declared.call.Call.{Call}
-use Rattle.callcycle.specs.Search.{IsMarked, waits, left, IsTaken, HasCallee, AreTaken}
+use Rattle.callcycle.specs.Search.{IsMarked, waits, left, IsTaken, AreTaken}
 
 pub marked-within : (m : List Bool) (g : ℕ) → IsMarked m g → g < length m
 marked-within m g k = elim (cases_lt g (length m)) [

@@ -1,5 +1,5 @@
 -- Inner words of the search.
-use Rattle.std.specs.Prelude.{◌≡◌, ◌<◌, ◌≤◌, ◌+◌, ◌++◌, ◌⊎◌, ◌↔◌, ℕ, Bool, true, false, List, [], ◌∷◌, Option, Some, None, Contains}
+use Rattle.std.specs.Prelude.{◌≡◌, ◌<◌, ◌≤◌, ◌+◌, ◌++◌, ◌⊎◌, ℕ, Bool, true, false, List, [], ◌∷◌, Option, Some, None, Contains}
 use Rattle.std.specs.Prelude.{length, slice_set, sum_by, slice_index, slice_index_or}
 use Rattle.std.specs.Global.{Vec}
 use Rattle.csyn.specs.declared.span.Span.{Span}

@@ -15,7 +15,12 @@ returns-then-number_of c =
 
 pub index-requires : goal.index-requires
 index-requires c =
-    omega (arith, caller-within c.args.functions.now c.args.caller c.args.call.now c.requires.is, c.in_ok-reached.ensures.all, c.in_ok-reached.reached.ok.0)
+    omega (
+      arith,
+      caller-within c.args.functions.now c.args.caller c.args.call.now c.requires.is,
+      c.in_ok-reached.ensures.all,
+      c.in_ok-reached.reached.ok.0,
+    )
 
 pub returns : goal.returns
 returns c =

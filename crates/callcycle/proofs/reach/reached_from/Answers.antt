@@ -1,4 +1,4 @@
-use Rattle.std.proofs.Common.{List, ◌++◌, ◌∷◌, [], ℕ, subst, sym, arith, rules}
+use Rattle.std.proofs.Common.{List, ℕ, subst, arith, rules}
 use Rattle.callcycle.specs.declared.call.Call.{Call}
 use Rattle.callcycle.specs.Search.{AreTaken}
 use Rattle.callcycle.proofs.Reached.{IsReaching, reaching-begun, reaching-next, reaching-last}
