@@ -1,0 +1,4 @@
+pub mod Taken
+pub mod Reached
+pub mod Noted
+pub mod Depth
