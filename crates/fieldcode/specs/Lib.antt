@@ -1,0 +1,6 @@
+pub mod Ranges
+pub mod Insts
+pub mod Works
+pub mod Homes
+pub mod Values
+pub mod Runs
