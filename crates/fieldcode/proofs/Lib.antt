@@ -1,2 +1,5 @@
 pub mod Bytes
 pub mod Steps
+pub mod Chains
+pub mod Numbers
+pub mod SignedNumbers
