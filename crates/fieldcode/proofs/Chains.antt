@@ -71,7 +71,7 @@ pub record Worked (code : List Inst) (d : Field) (n : ℕ) (registers ram : List
   pub value : number_of after d ≡ n % 2 ^ (8 * part_length d.part)
   pub kept : Keeps (work_ranges d) registers after
 
-single : (i : Inst) (d : Field) (n : ℕ) (registers ram : List ℕ) → d.reg < 30 → length registers ≡ 124
+pub single : (i : Inst) (d : Field) (n : ℕ) (registers ram : List ℕ) → d.reg < 30 → length registers ≡ 124
     → Does i registers ram (put d n registers) ram → Worked (i ∷ []) d n registers ram
 single i d n registers ram low full does = record {
   after = put d n registers;

@@ -148,12 +148,14 @@ module _ (d : Field) (n : ℕ) (registers : List ℕ) (low : d.reg < 30) (full :
   pub put_size : length (put d n registers) ≡ 124
   put_size = with_size (place_of d) (little_bytes (part_length d.part) n) registers room ∙ full
 
-  pub put_same : number_of (put d n registers) d ≡ n % 2 ^ (8 * part_length d.part)
-  put_same =
+  pub put_bytes : bytes_at (place_of d) (part_length d.part) (put d n registers) ≡ little_bytes (part_length d.part) n
+  put_bytes =
       let bytes : List ℕ = little_bytes (part_length d.part) n in
-      ap (λ len. little_number (part_length d.part) (bytes_at (place_of d) len (put d n registers))) (sym (little_size (width_of d.part) n))
-      ∙ ap (little_number (part_length d.part)) (read_same (place_of d) bytes registers room)
-      ∙ read_back (width_of d.part) n
+      ap (λ len. bytes_at (place_of d) len (put d n registers)) (sym (little_size (width_of d.part) n))
+      ∙ read_same (place_of d) bytes registers room
+
+  pub put_same : number_of (put d n registers) d ≡ n % 2 ^ (8 * part_length d.part)
+  put_same = ap (little_number (part_length d.part)) put_bytes ∙ read_back (width_of d.part) n
 
   pub put_other : (at len : ℕ) → AreApart at len (place_of d) (part_length d.part)
       → bytes_at at len (put d n registers) ≡ bytes_at at len registers
