@@ -5,3 +5,5 @@ pub mod Numbers
 pub mod SignedNumbers
 pub mod Shifts
 pub mod Constants
+pub mod Setups
+pub mod Works

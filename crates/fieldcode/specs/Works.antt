@@ -1,5 +1,5 @@
 -- What an operator becomes between operands in fields and a result in a field.
-use Rattle.std.specs.Prelude.{ℕ, ◌*◌, ◌-◌, ◌/◌, ◌%◌, ◌^◌, List, [], ◌∷◌, ◌++◌}
+use Rattle.std.specs.Prelude.{ℕ, Bool, true, false, ◌*◌, ◌-◌, ◌/◌, ◌%◌, ◌^◌, List, [], ◌∷◌, ◌++◌}
 use Rattle.prunum.specs.Width.{byte_count}
 use Rattle.prunum.specs.Number.{bit_count}
 use Rattle.prunum.specs.declared.width.Width.{Width}
@@ -72,6 +72,15 @@ turned a b =
 abbrev pub shifted_mask : Operand → List Inst
 shifted_mask (operand.Imm n) = constant mask (2 ^ 31 / 2 ^ (n % 32))
 shifted_mask (operand.Field b) = sign_bit ++ (inst.Alu alu.Lsr mask mask (operand.Field b) ∷ [])
+
+-- It is done by the words themselves, and not by a helper.
+abbrev pub is_direct : BinaryOp → Bool
+is_direct binary.Multiply = false
+is_direct binary.Quotient = false
+is_direct binary.QuotientSigned = false
+is_direct binary.Remainder = false
+is_direct binary.RemainderSigned = false
+is_direct _ = true
 
 abbrev pub binary_work : BinaryOp → Field → Operand → Work
 binary_work binary.Add a b = just a (Computes alu.Add b ∷ [])
