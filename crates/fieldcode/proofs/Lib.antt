@@ -7,3 +7,5 @@ pub mod Shifts
 pub mod Constants
 pub mod Setups
 pub mod Works
+pub mod Ones
+pub mod Slots

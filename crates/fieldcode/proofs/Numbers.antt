@@ -126,3 +126,17 @@ pub leftmost_is : (n a bit : ℕ) → leftmost_below a bit n ≡ leftmost n a bi
 unfolding leftmost_below
 leftmost_is zero a bit = refl
 leftmost_is (suc n) a bit = ap (λ r. if bit_at a n == bit then n else r) (leftmost_is n a bit)
+
+not_by : (a : ℕ) → a < 2 ^ 32 → (e : Bool) → (a == 0) ≡ e → bit_xor (min a 1 % 2 ^ 32) 1 ≡ truth e
+not_by a fits true is = ap (λ x. bit_xor (min x 1 % 2 ^ 32) 1) (eqb-true a 0 is)
+not_by a fits false is =
+    let some : a ≢ 0 = eqb-false a 0 is in
+    let one : min a 1 ≡ 1 = grind arith in
+    ap (λ x. bit_xor (x % 2 ^ 32) 1) one
+
+-- 1 for 0, and 0 for all else
+pub is_zero : (a : ℕ) → a < 2 ^ 32 → bit_xor (min a 1 % 2 ^ 32) 1 ≡ truth (a == 0)
+is_zero a fits = not_by a fits (a == 0) refl
+
+pub copied : (a : ℕ) → a < 2 ^ 32 → (a + 0) % 2 ^ 32 ≡ a
+copied a fits = omega (arith, fits)

@@ -55,7 +55,7 @@ module _ (d a : Field) (b : Operand) (registers ram : List ℕ) (ready : AreRead
   abbrev y : ℕ
   y = operand_number registers b
 
-  just_does : (n : ℕ) (c : Action) (cs : List Action) → AllFree (c ∷ cs) → chain_value registers x (c ∷ cs) ≡ n
+  pub just_does : (n : ℕ) (c : Action) (cs : List Action) → AllFree (c ∷ cs) → chain_value registers x (c ∷ cs) ≡ n
       → Worked (work_code (just a (c ∷ cs)) d) d n registers ram
   just_does n c cs free is =
       with_value (chained d a (c ∷ cs)) d (chain_value registers x (c ∷ cs)) n registers ram (ap (λ v. v % 2 ^ (8 * part_length d.part)) is)

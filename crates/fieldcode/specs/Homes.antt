@@ -50,8 +50,17 @@ IsApartFrom at len (r ∷ ranges) = AreApart at len r.0 r.1 × IsApartFrom at le
 abbrev pub work_scratch : List (ℕ × ℕ)
 work_scratch = (0, 12) ∷ (16, 4) ∷ []
 
-abbrev pub slot_scratch : List (ℕ × ℕ)
-slot_scratch = (104, 16) ∷ []
+abbrev pub scratch : List (ℕ × ℕ)
+scratch = (0, 12) ∷ (16, 4) ∷ (104, 16) ∷ []
+
+-- what an operation may change besides, where its result has this width and home
+abbrev pub register_ranges : Width → Home → List (ℕ × ℕ)
+register_ranges w (home.Field f) = (first_byte f, byte_count w) ∷ scratch
+register_ranges w (home.Slot n) = scratch
+
+abbrev pub ram_ranges : ℕ → Width → Home → List (ℕ × ℕ)
+ram_ranges slots w (home.Field f) = []
+ram_ranges slots w (home.Slot n) = (slot_place slots n, byte_count w) ∷ []
 
 -- there are as many bytes as before, and they are the same but in these ranges
 pub record Keeps (ranges : List (ℕ × ℕ)) (before after : List ℕ) : Type 0 where
