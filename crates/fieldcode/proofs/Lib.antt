@@ -9,3 +9,4 @@ pub mod Setups
 pub mod Works
 pub mod Ones
 pub mod Slots
+pub mod Ops

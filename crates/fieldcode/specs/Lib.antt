@@ -4,3 +4,4 @@ pub mod Works
 pub mod Homes
 pub mod Values
 pub mod Runs
+pub mod Effects

@@ -21,8 +21,8 @@ pub record Place : Type 0 where
 
 -- The right operand of a binary operation.
 pub data Right : Type 0 where
-  Place' : Place → Right
-  Number' : ℕ → Right
+  InPlace : Place → Right
+  Constant : ℕ → Right
 
 -- what is fetched first, and the field that then has the number
 pub record Source : Type 0 where
@@ -51,8 +51,8 @@ number_source n =
     else record { fetch = constant (whole 27) n; operand = isa_operand.Field (whole 27) }
 
 abbrev pub right_source : ℕ → Right → OperandSource
-right_source slots (Place' p) = as_operand (source_in slots p.width p.home 1)
-right_source slots (Number' n) = number_source n
+right_source slots (InPlace p) = as_operand (source_in slots p.width p.home 1)
+right_source slots (Constant n) = number_source n
 
 -- the field that a result is put into, and what puts it into its slot
 pub record Sink : Type 0 where
@@ -79,9 +79,9 @@ one_code slots work to from =
 
 -- Shifts take their number modulo 32.
 abbrev pub reduced : BinaryOp → Right → Right
-reduced binary.ShiftLeft (Number' n) = Number' (n % 32)
-reduced binary.ShiftRight (Number' n) = Number' (n % 32)
-reduced binary.ShiftRightSigned (Number' n) = Number' (n % 32)
+reduced binary.ShiftLeft (Constant n) = Constant (n % 32)
+reduced binary.ShiftRight (Constant n) = Constant (n % 32)
+reduced binary.ShiftRightSigned (Constant n) = Constant (n % 32)
 reduced o right = right
 
 abbrev pub two_code : ℕ → BinaryOp → Place → Place → Right → List Inst
