@@ -10,3 +10,6 @@ pub mod Works
 pub mod Ones
 pub mod Slots
 pub mod Ops
+pub mod TwoOps
+pub mod Standing
+pub mod Public

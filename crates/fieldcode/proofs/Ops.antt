@@ -138,7 +138,7 @@ pub finish : (slots spills : ℕ) (to : Place) (pre body : List Inst) (n : ℕ) 
 finish slots spills to pre body n registers ram middle lives core before kept did =
     finish_in slots spills to.width to.home pre body n registers ram middle lives core before kept did
 
-sink_low : (slots spills : ℕ) (w : Width) (h : Home) → LivesWell spills w h → (sink_in slots w h).field.reg < 30
+pub sink_low : (slots spills : ℕ) (w : Width) (h : Home) → LivesWell spills w h → (sink_in slots w h).field.reg < 30
 sink_low slots spills w (home.Field f) lives = home_low f w lives
 sink_low slots spills w (home.Slot m) lives = lit< tt
 
@@ -153,7 +153,7 @@ pub record Got (code : List Inst) (r : ℕ) (f : Field) (v : ℕ) (registers ram
   pub value : number_of after f ≡ v
   pub ends : place_of f + part_length f.part ≤ 108 + 4 * (r % 3)
 
-got : (slots spills : ℕ) (w : Width) (h : Home) (r v : ℕ) (registers ram : List ℕ) → LivesWell spills w h
+pub got : (slots spills : ℕ) (w : Width) (h : Home) (r v : ℕ) (registers ram : List ℕ) → LivesWell spills w h
     → HasRoom slots spills registers ram → Holds slots w h registers ram v
     → Got (source_in slots w h r).fetch r (source_in slots w h r).field v registers ram
 got slots spills w (home.Field f) r v registers ram lives core holds =
@@ -188,7 +188,7 @@ got slots spills w (home.Slot m) r v registers ram lives core holds =
     }
 
 -- what stands in a home still does so behind changes of scratch
-still : (slots spills : ℕ) (w : Width) (h : Home) (v : ℕ) (registers after ram : List ℕ) → LivesWell spills w h
+pub still : (slots spills : ℕ) (w : Width) (h : Home) (v : ℕ) (registers after ram : List ℕ) → LivesWell spills w h
     → Keeps scratch registers after → Holds slots w h registers ram v → Holds slots w h after ram v
 still slots spills w (home.Field f) v registers after ram lives kept holds =
     let from = lives.from in
@@ -203,7 +203,7 @@ still slots spills w (home.Slot m) v registers after ram lives kept holds = reco
 
 -- ---- operations with one operand
 
-fetch_scratch : (r at len : ℕ) → r % 3 < 2 → IsApartFrom at len scratch → IsApartFrom at len (fetch_ranges r)
+pub fetch_scratch : (r at len : ℕ) → r % 3 < 2 → IsApartFrom at len scratch → IsApartFrom at len (fetch_ranges r)
 fetch_scratch r at len few from =
     (from.0, (inner at len 104 16 (slot_first r) 4 (omega arith) (omega (arith, few)) from.1.1.0, tt))
 

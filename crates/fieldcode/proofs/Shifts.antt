@@ -110,7 +110,7 @@ shift_by a j fits small false is =
     let more : 2 ^ 31 ≤ a = ltb-false a (2 ^ 31) is in
     shift_high a j small (a - 2 ^ 31) (2 ^ 32 - 1 - a) (omega arith) (omega arith)
 
-taken_modulo : (a n : ℕ) → shr_s a (n % 32) ≡ shr_s a n
+pub taken_modulo : (a n : ℕ) → shr_s a (n % 32) ≡ shr_s a n
 unfolding shr_s
 taken_modulo a n =
     ap (λ i. wrap_signed B4 (int_div_euclid (sext B4 a) (pos (2 ^ i)))) (let e : n % 32 % 32 ≡ n % 32 = omega arith in e)

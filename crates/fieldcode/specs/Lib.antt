@@ -5,3 +5,4 @@ pub mod Homes
 pub mod Values
 pub mod Runs
 pub mod Effects
+pub mod Laws

@@ -15,10 +15,10 @@ pub data Straight : List Inst → List ℕ → List ℕ → List ℕ → List �
   next : (i : Inst) (is : List Inst) (registers ram middle between after left : List ℕ) → Does i registers ram middle between
       → Straight is middle between after left → Straight (i ∷ is) registers ram after left
 
--- No LOOP ends within so many instructions from a place on.
+-- No LOOP goes on, or the place is in its body, which doesn't end within so many instructions from there on.
 abbrev pub GoesThrough : ℕ → ℕ → Option Turning → Type 0
 GoesThrough base count None = Unit {0}
-GoesThrough base count (Some t) = (t.first ≤ base) × (base + count ≤ t.end)
+GoesThrough base count (Some t) = (t.first ≤ base) × (base < t.end) × (base + count ≤ t.end)
 
 -- the core, come to a place with these registers and RAM
 abbrev pub come_to : ℕ → Option Turning → List ℕ → List ℕ → State
