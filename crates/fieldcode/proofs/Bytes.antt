@@ -26,8 +26,13 @@ module _ (at : ℕ) (bytes list : List ℕ) (within : at + length bytes ≤ leng
   pub with_size : length (with_bytes at bytes list) ≡ length list
   with_size =
       let rest : List ℕ = drop (at + length bytes) list in
-      omega (arith, front_size, length-append (take at list) (bytes ++ rest), length-append bytes rest,
-      length-drop (at + length bytes) list)
+      omega (
+        arith,
+        front_size,
+        length-append (take at list) (bytes ++ rest),
+        length-append bytes rest,
+        length-drop (at + length bytes) list,
+      )
 
   pub read_same : bytes_at at (length bytes) (with_bytes at bytes list) ≡ bytes
   read_same =

@@ -6,7 +6,7 @@ use Rattle.std.specs.Int.{w32, bit_at, bit_not}
 use Rattle.std.specs.Int.Bits.{xor_self, xor_zero_r, xor_add_and}
 use Rattle.std.proofs.lemmas.Nat.{and_le_l, and_le_r, xor_lt, xor_block, xor_comm}
 use Rattle.std.proofs.lemmas.Bool.{eqb-true, eqb-false, ltb-true, ltb-false, leb-true, leb-false}
-use Rattle.corestep.specs.Compute.{difference, leftmost_below} 
+use Rattle.corestep.specs.Compute.{difference, leftmost_below}
 use Rattle.corestep.specs.Compute as compute
 use Rattle.midcode.specs.Value.{truth, leftmost, shifted}
 

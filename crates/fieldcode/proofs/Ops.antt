@@ -86,10 +86,13 @@ module _ (slots spills : ℕ) (w : Width) where
           kept = keeps_all (register_ranges w (home.Field f)) registers middle did.after
               (keeps_more scratch (register_ranges w (home.Field f)) registers middle (λ at len from. from.1) kept)
               (keeps_more (work_ranges f) (register_ranges w (home.Field f)) middle did.after
-              (λ at len from. (elim from.0 [
-                | inl less ↦ inl (omega (arith, less, at_place))
-                | inr more ↦ inr (omega (arith, more, at_place, long))
-              ], (from.1.0, (from.1.1.0, tt)))) did.kept);
+              (λ at len from. (
+                elim from.0 [
+                  | inl less ↦ inl (omega (arith, less, at_place))
+                  | inr more ↦ inr (omega (arith, more, at_place, long))
+                ],
+                (from.1.0, (from.1.1.0, tt)),
+              )) did.kept);
           ram_kept = record { size = refl; others = λ at len from. refl };
         };
       }
@@ -116,8 +119,11 @@ module _ (slots spills : ℕ) (w : Width) where
           kept = keeps_all scratch registers middle last.after kept
               (keeps_all scratch middle did.after last.after
               (keeps_more (work_ranges d) scratch middle did.after
-              (λ a len from. (inner a len 104 16 (place_of d) (part_length d.part) (omega (arith, d_place))
-              (omega (arith, d_place, d_long, few_bytes w)) from.1.1.0, (from.0, (from.1.0, tt)))) did.kept)
+              (λ a len from. (
+                inner a len 104 16 (place_of d) (part_length d.part) (omega (arith, d_place))
+                    (omega (arith, d_place, d_long, few_bytes w)) from.1.1.0,
+                (from.0, (from.1.0, tt)),
+              )) did.kept)
               (keeps_more ((0, 12) ∷ []) scratch did.after last.after (λ a len from. (from.0, tt)) last.kept));
           ram_kept = last.ram_kept;
         };

@@ -71,12 +71,14 @@ laid : (code : Code) (base : ℕ) (is : List Inst)
 laid code base [] inst notes = tt
 laid code base (i ∷ is) inst notes =
     let first : base + 0 ≡ base = omega arith in
-    let next : (p : ℕ) → base + 1 + p ≡ base + suc p = λ p. omega arith in
-    (record {
-      inst = ap code.inst (sym first) ∙ inst 0 (omega arith);
-      notes = ap code.notes (sym first) ∙ notes 0 (omega arith);
-    }, laid code (base + 1) is (λ p less. ap code.inst (next p) ∙ inst (suc p) (omega arith))
-    (λ p less. ap code.notes (next p) ∙ notes (suc p) (omega arith)))
+    let shift : (p : ℕ) → base + 1 + p ≡ base + suc p = λ p. omega arith in (
+      record {
+        inst = ap code.inst (sym first) ∙ inst 0 (omega arith);
+        notes = ap code.notes (sym first) ∙ notes 0 (omega arith);
+      },
+      laid code (base + 1) is (λ p less. ap code.inst (shift p) ∙ inst (suc p) (omega arith))
+          (λ p less. ap code.notes (shift p) ∙ notes (suc p) (omega arith)),
+    )
 
 stands_laid : (code : Code) (base : ℕ) (is : List Inst) → StandsAt code base (items is) → Laid code base is
 stands_laid code base is stands =
@@ -133,9 +135,11 @@ behind_one : (base count : ℕ) (t : Option Turning) → GoesThrough base (suc (
 behind_one base count None through = tt
 behind_one base count (Some u) through =
     let lower = through.0 in
-    let upper = through.2 in
-    ((let e : u.first ≤ base + 1 = omega (arith, lower) in e), (let e : base + 1 < u.end = omega (arith, upper) in e),
-    (let e : base + 1 + suc count ≤ u.end = omega (arith, upper) in e))
+    let upper = through.2 in (
+      (let e : u.first ≤ base + 1 = omega (arith, lower) in e),
+      (let e : base + 1 < u.end = omega (arith, upper) in e),
+      (let e : base + 1 + suc count ≤ u.end = omega (arith, upper) in e),
+    )
 
 abbrev state : ℕ → Option Turning → List ℕ → List ℕ → State
 state p t a r = record { pc = p; turning = t; registers = a; ram = r }

@@ -186,4 +186,4 @@ keeps_more few many a b less kept = record { size = kept.size; others = λ at le
 -- what is apart from a range is apart from each within it
 pub inner : (at len first count g e : ℕ) → first ≤ g → g + e ≤ first + count → AreApart at len first count → AreApart at len g e
 inner at len first count g e from to apart =
-    elim apart [ | inl less ↦ inl (omega arith) | inr more ↦ inr (omega arith) ]
+    elim apart [ inl less ↦ inl (omega arith) | inr more ↦ inr (omega arith) ]

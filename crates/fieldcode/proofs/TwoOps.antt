@@ -43,9 +43,14 @@ record GotRight (code : List Inst) (o : Operand) (v : ℕ) (registers ram : List
   clear : IsClear o
   value : operand_number after o ≡ v
 
+abbrev imm_source : ℕ → OperandSource
+imm_source n = record { fetch = []; operand = operand.Imm n }
+
+abbrev loaded_source : ℕ → OperandSource
+loaded_source n = record { fetch = constant (whole 27) n; operand = operand.Field (whole 27) }
+
 number_by : (n v : ℕ) (registers ram : List ℕ) (l : Bool) → n ≡ v → v < 2 ^ 32 → length registers ≡ 124 → (s : OperandSource)
-    → (if l then record { fetch = []; operand = operand.Imm n }
-    else record { fetch = constant (whole 27) n; operand = operand.Field (whole 27) }) ≡ s
+    → (if l then imm_source n else loaded_source n) ≡ s
     → GotRight s.fetch s.operand v registers ram
 number_by n v registers ram true is fits full s same =
     subst (λ (s : OperandSource). GotRight s.fetch s.operand v registers ram) same (record {

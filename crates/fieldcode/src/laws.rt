@@ -8,7 +8,7 @@ ghost use Rattle.fieldcode.specs.Works.{unary_work, copy_work};
 
 /// Constants, copies, sign extension, and each operator that needs no helper become instructions that do them, whatever the homes of their
 /// operands and of their result are, and wherever the instructions stand under any numbering. Each instruction is done once, in order.
-#[tactic(auto, using(crate::proofs::Public::unary_law, crate::proofs::Public::copy_law, crate::proofs::Public::widen_law, crate::proofs::Public::constant_law, crate::proofs::Public::two_law))]
+#[tactic(auto, using(crate::proofs::Public::value_rules))]
 pub fn value_laws()
     ensures constant { ConstantLaw }
     ensures copy { OneLaw copy_work (λ x. x) }
@@ -19,7 +19,7 @@ pub fn value_laws()
 
 /// With every register in a slot they are at most the words that operations are counted with: samples of each operator with a register, a
 /// small and a great number on its right, and of the others but the copy.
-#[tactic(auto, using(crate::proofs::Public::slots_small, crate::proofs::Public::numbers_small, crate::proofs::Public::large_small, crate::proofs::Public::others_small))]
+#[tactic(auto, using(crate::proofs::Public::word_rules))]
 pub fn word_laws()
     ensures slots { IsTrue (list_all is_small (each_direct with_slot)) }
     ensures numbers { IsTrue (list_all is_small (each_direct (λ o. with_number o 200))) }
