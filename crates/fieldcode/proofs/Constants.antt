@@ -43,7 +43,8 @@ four_bytes p list less =
     ∙ take-append-add front (drop 2 rest) 2
     ∙ ap (λ (l : List ℕ). front ++ take 2 l) (drop-drop 2 p list)
 
-module _ (r : ℕ) (in_range : r < 32) (n : ℕ) (registers ram : List ℕ) (low : r < 30) (fits : n < 2 ^ 32) (full : length registers ≡ 124) where
+module _ (r : ℕ) (in_range : r < 32) (n : ℕ) (registers ram : List ℕ) (low : r < 30) (fits : n < 2 ^ 32)
+    (full : length registers ≡ 124) where
   abbrev whole_field : Field
   whole_field = record { reg = r; part = parts.All; in_range = in_range }
 
@@ -101,13 +102,20 @@ module _ (r : ℕ) (in_range : r < 32) (n : ℕ) (registers ram : List ℕ) (low
   constant_by : (p : Part) → Worked (constant (record { reg = r; part = p; in_range = in_range }) n)
       (record { reg = r; part = p; in_range = in_range }) n registers ram
   constant_by parts.All = whole_by (nat_lt n 65536) refl
-  constant_by parts.B0 = one_ldi (record { reg = r; part = parts.B0; in_range = in_range }) (n % 65536) n registers ram low full (omega arith)
-  constant_by parts.B1 = one_ldi (record { reg = r; part = parts.B1; in_range = in_range }) (n % 65536) n registers ram low full (omega arith)
-  constant_by parts.B2 = one_ldi (record { reg = r; part = parts.B2; in_range = in_range }) (n % 65536) n registers ram low full (omega arith)
-  constant_by parts.B3 = one_ldi (record { reg = r; part = parts.B3; in_range = in_range }) (n % 65536) n registers ram low full (omega arith)
-  constant_by parts.W0 = one_ldi (record { reg = r; part = parts.W0; in_range = in_range }) (n % 65536) n registers ram low full (omega arith)
-  constant_by parts.W1 = one_ldi (record { reg = r; part = parts.W1; in_range = in_range }) (n % 65536) n registers ram low full (omega arith)
-  constant_by parts.W2 = one_ldi (record { reg = r; part = parts.W2; in_range = in_range }) (n % 65536) n registers ram low full (omega arith)
+  constant_by parts.B0 =
+      one_ldi (record { reg = r; part = parts.B0; in_range = in_range }) (n % 65536) n registers ram low full (omega arith)
+  constant_by parts.B1 =
+      one_ldi (record { reg = r; part = parts.B1; in_range = in_range }) (n % 65536) n registers ram low full (omega arith)
+  constant_by parts.B2 =
+      one_ldi (record { reg = r; part = parts.B2; in_range = in_range }) (n % 65536) n registers ram low full (omega arith)
+  constant_by parts.B3 =
+      one_ldi (record { reg = r; part = parts.B3; in_range = in_range }) (n % 65536) n registers ram low full (omega arith)
+  constant_by parts.W0 =
+      one_ldi (record { reg = r; part = parts.W0; in_range = in_range }) (n % 65536) n registers ram low full (omega arith)
+  constant_by parts.W1 =
+      one_ldi (record { reg = r; part = parts.W1; in_range = in_range }) (n % 65536) n registers ram low full (omega arith)
+  constant_by parts.W2 =
+      one_ldi (record { reg = r; part = parts.W2; in_range = in_range }) (n % 65536) n registers ram low full (omega arith)
 
 pub constant_does : (d : Field) (n : ℕ) (registers ram : List ℕ) → d.reg < 30 → n < 2 ^ 32 → length registers ≡ 124
     → Worked (constant d n) d n registers ram

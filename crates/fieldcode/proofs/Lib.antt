@@ -12,4 +12,5 @@ pub mod Slots
 pub mod Ops
 pub mod TwoOps
 pub mod Standing
+pub mod Kept
 pub mod Public

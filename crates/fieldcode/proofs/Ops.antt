@@ -248,7 +248,8 @@ module _ (slots spills : ℕ) (to from : Place) (registers ram : List ℕ) (core
       n left.after ram) left.value
       (copy_does (sink slots to).field (left_source slots from).field left.after ram ready))
 
-  pub widen_puts : (w : Width) → IsNarrow w x → Puts slots to (wrap_signed B4 (sext w x)) (one_code slots (widen_work w) to from) registers ram
+  pub widen_puts : (w : Width) → IsNarrow w x
+      → Puts slots to (wrap_signed B4 (sext w x)) (one_code slots (widen_work w) to from) registers ram
   widen_puts w narrow =
       one_does (widen_work w) (wrap_signed B4 (sext w x))
       (subst (λ n. Worked (work_code (widen_work w (left_source slots from).field) (sink slots to).field) (sink slots to).field

@@ -56,6 +56,4 @@ large_small = refl
 pub others_small : IsTrue (list_all is_small other_samples)
 others_small = refl
 
-pub ruleset value_rules = (unary_law, copy_law, widen_law, constant_law, two_law)
-
 pub ruleset word_rules = (slots_small, numbers_small, large_small, others_small)

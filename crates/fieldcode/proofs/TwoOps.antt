@@ -165,15 +165,18 @@ reduce slots spills binary.Or x y right registers ram lives holds = record { num
 reduce slots spills binary.Xor x y right registers ram lives holds = record { number = y; has = holds; lives = lives; gives = refl }
 reduce slots spills binary.Multiply x y right registers ram lives holds = record { number = y; has = holds; lives = lives; gives = refl }
 reduce slots spills binary.Quotient x y right registers ram lives holds = record { number = y; has = holds; lives = lives; gives = refl }
-reduce slots spills binary.QuotientSigned x y right registers ram lives holds = record { number = y; has = holds; lives = lives; gives = refl }
+reduce slots spills binary.QuotientSigned x y right registers ram lives holds =
+    record { number = y; has = holds; lives = lives; gives = refl }
 reduce slots spills binary.Remainder x y right registers ram lives holds = record { number = y; has = holds; lives = lives; gives = refl }
-reduce slots spills binary.RemainderSigned x y right registers ram lives holds = record { number = y; has = holds; lives = lives; gives = refl }
+reduce slots spills binary.RemainderSigned x y right registers ram lives holds =
+    record { number = y; has = holds; lives = lives; gives = refl }
 reduce slots spills binary.Equal x y right registers ram lives holds = record { number = y; has = holds; lives = lives; gives = refl }
 reduce slots spills binary.NotEqual x y right registers ram lives holds = record { number = y; has = holds; lives = lives; gives = refl }
 reduce slots spills binary.Less x y right registers ram lives holds = record { number = y; has = holds; lives = lives; gives = refl }
 reduce slots spills binary.LessSigned x y right registers ram lives holds = record { number = y; has = holds; lives = lives; gives = refl }
 reduce slots spills binary.LessOrEqual x y right registers ram lives holds = record { number = y; has = holds; lives = lives; gives = refl }
-reduce slots spills binary.LessOrEqualSigned x y right registers ram lives holds = record { number = y; has = holds; lives = lives; gives = refl }
+reduce slots spills binary.LessOrEqualSigned x y right registers ram lives holds =
+    record { number = y; has = holds; lives = lives; gives = refl }
 reduce slots spills binary.LeftmostBit x y right registers ram lives holds = record { number = y; has = holds; lives = lives; gives = refl }
 
 -- ---- operations

@@ -115,7 +115,8 @@ mask_made a (operand.Field f) registers ram full clear =
     let first = mask_does (2 ^ 31) registers ram (lit< tt) full in
     let y : ℕ = number_of registers f in
     let same : number_of first.after f ≡ y = same_clear registers first.after (operand.Field f) first.kept clear in
-    let more = one_more sign_bit (Computes alu.Lsr (operand.Field f)) mask mask (2 ^ 31 / 2 ^ (y % 32)) registers ram first.after first.straight first.kept full
+    let more = one_more sign_bit (Computes alu.Lsr (operand.Field f)) mask mask (2 ^ 31 / 2 ^
+        (y % 32)) registers ram first.after first.straight first.kept full
     mask_whole (lit< tt) clear.0
     (ap (λ m. m / 2 ^ (number_of first.after f % 32)) first.value ∙ ap (λ i. 2 ^ 31 / 2 ^ (i % 32)) same) (shifted_small y) in
     more.prepared
@@ -124,20 +125,23 @@ pub binary_does : (o : BinaryOp) (d a : Field) (b : Operand) (registers ram : Li
     → Worked (work_code (binary_work o a b) d) d (binary_value o (number_of registers a) (operand_number registers b)) registers ram
 unfolding binary_value
 binary_does binary.Add d a b registers ram direct ready =
-    just_does d a b registers ram ready (binary_value binary.Add (number_of registers a) (operand_number registers b)) (Computes alu.Add b) []
+    just_does d a b registers ram ready (binary_value binary.Add (number_of registers a) (operand_number registers b))
+    (Computes alu.Add b) []
     (clear_free b ready.right, tt) refl
 binary_does binary.Subtract d a b registers ram direct ready =
     just_does d a b registers ram ready (binary_value binary.Subtract (number_of registers a) (operand_number registers b))
     (Computes alu.Sub b) [] (clear_free b ready.right, tt)
     (difference_is (number_of registers a) (operand_number registers b) ready.right_fits)
 binary_does binary.And d a b registers ram direct ready =
-    just_does d a b registers ram ready (binary_value binary.And (number_of registers a) (operand_number registers b)) (Computes alu.And b) []
+    just_does d a b registers ram ready (binary_value binary.And (number_of registers a) (operand_number registers b))
+    (Computes alu.And b) []
     (clear_free b ready.right, tt) refl
 binary_does binary.Or d a b registers ram direct ready =
     just_does d a b registers ram ready (binary_value binary.Or (number_of registers a) (operand_number registers b)) (Computes alu.Or b) []
     (clear_free b ready.right, tt) refl
 binary_does binary.Xor d a b registers ram direct ready =
-    just_does d a b registers ram ready (binary_value binary.Xor (number_of registers a) (operand_number registers b)) (Computes alu.Xor b) []
+    just_does d a b registers ram ready (binary_value binary.Xor (number_of registers a) (operand_number registers b))
+    (Computes alu.Xor b) []
     (clear_free b ready.right, tt) refl
 binary_does binary.ShiftLeft d a b registers ram direct ready =
     just_does d a b registers ram ready (binary_value binary.ShiftLeft (number_of registers a) (operand_number registers b))
@@ -152,7 +156,8 @@ binary_does binary.ShiftRightSigned d a b registers ram direct ready =
     (ap (λ v. v % 2 ^ (8 * part_length d.part)) (shift_is (number_of registers a) (operand_number registers b) ready.left_fits))
     (masked_shift d a b registers ram ready (mask_made a b registers ram ready.full ready.right))
 binary_does binary.Equal d a b registers ram direct ready =
-    just_does d a b registers ram ready (binary_value binary.Equal (number_of registers a) (operand_number registers b)) (Computes alu.Xor b)
+    just_does d a b registers ram ready (binary_value binary.Equal (number_of registers a)
+    (operand_number registers b)) (Computes alu.Xor b)
     (Computes alu.Min (operand.Imm 1) ∷ Computes alu.Xor (operand.Imm 1) ∷ []) (clear_free b ready.right, (tt, (tt, tt)))
     (equal_is (number_of registers a) (operand_number registers b) ready.left_fits ready.right_fits)
 binary_does binary.NotEqual d a b registers ram direct ready =
@@ -186,7 +191,8 @@ binary_does binary.LessOrEqualSigned d a b registers ram direct ready =
     turned_chain d a b registers ram ready (binary_value binary.LessOrEqualSigned x y) (Computes alu.Max (operand.Field turned_right))
     (Computes alu.Xor (operand.Field turned_right) ∷ Computes alu.Min (operand.Imm 1) ∷ Computes alu.Xor (operand.Imm 1) ∷ []) t
     ((lit< tt, inr (lit≤ tt)), ((lit< tt, inr (lit≤ tt)), (tt, (tt, tt))))
-    (ap (λ u. bit_xor (min (bit_xor (max u (number_of t.after turned_right) % 2 ^ 32) (number_of t.after turned_right) % 2 ^ 32) 1 % 2 ^ 32) 1)
+    (ap (λ u. bit_xor (min (bit_xor (max u (number_of t.after turned_right) % 2 ^ 32)
+    (number_of t.after turned_right) % 2 ^ 32) 1 % 2 ^ 32) 1)
     t.left
     ∙ ap (λ v. bit_xor (min (bit_xor (max (shifted x) v % 2 ^ 32) v % 2 ^ 32) 1 % 2 ^ 32) 1) t.right
     ∙ less_or_equal_is (shifted x) (shifted y) (shifted_fits x) (shifted_fits y))

@@ -1,7 +1,8 @@
 -- That operations on values become instructions that do them, and in how many words, with every register in a slot.
-use Rattle.std.specs.Prelude.{◌≡◌, ℕ, ◌^◌, ◌<◌, Bool, true, nat_le, List, [], ◌∷◌, length}
-use Rattle.prunum.specs.Number.{sext, wrap_signed}
+use Rattle.std.specs.Prelude.{◌≡◌, ◌≢◌, ℕ, ◌%◌, ◌^◌, ◌<◌, Bool, true, IsTrue, nat_le, List, [], ◌∷◌, length, Option, Some, slice_get}
+use Rattle.prunum.specs.Number.{bit_count, sext, wrap_signed}
 use Rattle.prunum.specs.Width.{byte_count}
+use Rattle.prunum.specs.declared.width.Width.{Width}
 use Rattle.prunum.specs.declared.width.Width.TheVariants.{B1, B2, B4}
 use Rattle.isa.specs.declared.field.Field.{Field}
 use Rattle.isa.specs.declared.inst.Inst.{Inst}
@@ -13,11 +14,15 @@ use Rattle.midcode.specs.declared.op.OpKind.TheVariants as op
 use Rattle.midcode.specs.declared.op.UnaryOp.TheVariants as unary
 use Rattle.midcode.specs.declared.register.VReg.{VReg}
 use Rattle.midcode.specs.Cost.{size}
+use Rattle.midcode.specs.Machine.{with_register}
 use Rattle.midcode.specs.Value.{binary_value}
+use Rattle.subreg.specs.Allocation.{LivesWell, AreApart}
+use Rattle.subreg.specs.declared.home.Home.{Home}
 use Rattle.subreg.specs.declared.home.Home.TheVariants as home
+use Rattle.fieldcode.specs.Homes.{HomesHold}
 use Rattle.fieldcode.specs.Works.{Work, is_direct, unary_work, widen_work}
 use Rattle.fieldcode.specs.Values.{Place, Right, InPlace, Constant, one_code, two_code, constant_code}
-use Rattle.fieldcode.specs.Effects.{HasRoom, IsPlace, IsRight, HasValue, HasRight, Performs}
+use Rattle.fieldcode.specs.Effects.{HasRoom, IsPlace, IsRight, HasValue, HasRight, IsPut, Performs}
 
 -- ---- effects
 
@@ -43,6 +48,24 @@ TwoLaw = (o : BinaryOp) (slots spills : ℕ) (to left : Place) (right : Right) (
     → HasRoom slots spills registers ram → IsPlace spills to → IsPlace spills left → IsRight spills right
     → HasValue slots left registers ram x → HasRight slots right registers ram y
     → Performs slots to (binary_value o x y) (two_code slots o to left right) registers ram
+
+-- ---- registers
+
+-- Each other register that is live behind the operation was live before it, and its home is apart from the result's.
+abbrev pub AreOthers : ℕ → List Width → List Home → (ℕ → Type 0) → (ℕ → Type 0) → ℕ → Place → Type 0
+AreOthers spills widths homes live next r to = (q : ℕ) (w : Width) (h : Home) → next q → q ≢ r → slice_get widths q ≡ Some w
+    → slice_get homes q ≡ Some h → live q × LivesWell spills w h × AreApart h to.home
+
+abbrev pub are : (ℕ → Bool) → ℕ → Type 0
+are test q = IsTrue (test q)
+
+-- Where a number is put into the home of a register, the core holds what the registers hold with the number, cut to its width, in this one.
+abbrev pub HomesLaw : Type 0
+HomesLaw = (slots spills r n : ℕ) (widths : List Width) (homes : List Home) (live next : ℕ → Bool) (values : ℕ → Option ℕ) (to : Place)
+    (registers ram after left : List ℕ) → slice_get widths r ≡ Some to.width → slice_get homes r ≡ Some to.home
+    → LivesWell spills to.width to.home → AreOthers spills widths homes (are live) (are next) r to
+    → HomesHold slots widths homes (are live) values registers ram → IsPut slots to n registers ram after left
+    → HomesHold slots widths homes (are next) (with_register values r (n % 2 ^ bit_count to.width)) after left
 
 -- ---- words
 
