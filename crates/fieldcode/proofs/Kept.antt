@@ -47,7 +47,7 @@ fields_apart : (g f : Field) (w k : Width) → IsField g w → IsField f k → a
 fields_apart g f w k lives lives_too apart =
     let size = lives.size in
     let size_too = lives_too.size in
-    elim apart [ | inl less ↦ inl (omega (arith, less, size)) | inr more ↦ inr (omega (arith, more, size_too)) ]
+    elim apart [ inl less ↦ inl (omega (arith, less, size)) | inr more ↦ inr (omega (arith, more, size_too)) ]
 
 module _ (slots spills : ℕ) (w k : Width) (v : ℕ) (registers ram after left : List ℕ) where
   still_there : (h to : Home) → LivesWell spills w h → LivesWell spills k to → allocation.AreApart h to

@@ -106,8 +106,13 @@ store_does : (registers ram : List ℕ) (r at : ℕ) (w : Width) → number_of r
 store_does registers ram r at w is room full =
     let bytes : List ℕ = bytes_at (slot_first r) (byte_count w) registers in
     let size : length bytes ≡ byte_count w =
-    length-take-le (byte_count w) (drop (slot_first r) registers) (omega (arith, full, few_bytes w, length-drop
-    (slot_first r) registers)) in
+    length-take-le (byte_count w) (drop (slot_first r) registers) (omega (
+      arith,
+      full,
+      few_bytes w,
+      length-drop
+          (slot_first r) registers,
+    )) in
     record {
       effect = λ behind g.
           ap (λ n. stored registers ram n bytes) (at_is registers r at w is (omega (arith, room)))

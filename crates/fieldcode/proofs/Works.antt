@@ -116,7 +116,7 @@ mask_made a (operand.Field f) registers ram full clear =
     let y : ℕ = number_of registers f in
     let same : number_of first.after f ≡ y = same_clear registers first.after (operand.Field f) first.kept clear in
     let more = one_more sign_bit (Computes alu.Lsr (operand.Field f)) mask mask (2 ^ 31 / 2 ^
-        (y % 32)) registers ram first.after first.straight first.kept full
+    (y % 32)) registers ram first.after first.straight first.kept full
     mask_whole (lit< tt) clear.0
     (ap (λ m. m / 2 ^ (number_of first.after f % 32)) first.value ∙ ap (λ i. 2 ^ 31 / 2 ^ (i % 32)) same) (shifted_small y) in
     more.prepared
