@@ -1,0 +1,16 @@
+pub mod Bytes
+pub mod Steps
+pub mod Chains
+pub mod Numbers
+pub mod SignedNumbers
+pub mod Shifts
+pub mod Constants
+pub mod Setups
+pub mod Works
+pub mod Ones
+pub mod Slots
+pub mod Ops
+pub mod TwoOps
+pub mod Standing
+pub mod Kept
+pub mod Public
