@@ -1,0 +1,4 @@
+pub mod Labels
+pub mod Walk
+pub mod Ways
+pub mod Testing
