@@ -2,3 +2,4 @@ pub mod Labels
 pub mod Walk
 pub mod Ways
 pub mod Testing
+pub mod Logic

@@ -1,23 +1,33 @@
 -- Going through a code from its first operation to its end.
-use Rattle.std.proofs.Common.{◌≡◌, ℕ, ◌+◌, ◌*◌, ◌<◌, ◌≤◌, Bool, true, false, not, if◌then◌else◌, nat_lt, List, [], ◌∷◌, ◌++◌, length, take}
+use Rattle.std.proofs.Common.{◌≡◌, ℕ, ◌+◌, ◌*◌, ◌^◌, ◌<◌, ◌≤◌, Bool, true, false, not, if◌then◌else◌, nat_lt, List, [], ◌∷◌, ◌++◌, length, take}
 use Rattle.std.proofs.Common.{refl, sym, subst, ap, ◌∙◌, arith, Option, Some, None, slice_get, length-append}
+use Rattle.std.specs.List.{AllByRecursion}
 use Rattle.behaviour.specs.Ran.{Ran}
 use Rattle.behaviour.proofs.SimulatesLemmas.{simulates-from}
+use Rattle.prunum.specs.Number.{wrap}
+use Rattle.prunum.specs.declared.width.Width.TheVariants.{B4}
+use Rattle.csyn.specs.declared.specifiers.Sign.{Sign}
 use Rattle.midcode.specs.declared.register.VReg.{VReg}
 use Rattle.midcode.specs.declared.register.Label.{Label}
 use Rattle.midcode.specs.declared.op.Test.{Test}
 use Rattle.midcode.specs.declared.op.OpKind.{OpKind}
 use Rattle.midcode.specs.declared.op.OpKind.TheVariants as op
 use Rattle.midcode.specs.Function.{standing}
-use Rattle.midcode.specs.Meaning.{standing_at, is_met}
+use Rattle.midcode.specs.Meaning.{standing_at, is_met, charged}
 use Rattle.midcode.specs.Region.{is_before}
 use Rattle.cmean.specs.declared.undefined.UndefinedStep.{UndefinedStep}
+use Rattle.cmean.specs.Datum.{Datum, Number}
 use Rattle.cmean.specs.State.{State}
+use Rattle.lowerstate.specs.Held.{Meant, meant_width, Held}
 use Rattle.lowerstate.specs.Counted.{Counted, counted, least_of}
-use Rattle.lowerstate.specs.Related.{Fixed, Call, IsCall, Point, Related}
+use Rattle.lowerstate.specs.Related.{Fixed, Call, IsCall, Point, homes_with, Related}
 use Rattle.lowerstate.specs.Stands.{Ends, Does}
-use Rattle.lowerstate.specs.Piece.{StandsAt}
+use Rattle.lowerstate.specs.Piece.{StandsAt, word, register}
 use Rattle.lowerstate.specs.PieceLaws.{owed_behind, Moved}
+use Rattle.lowerstate.proofs.Agree.{wrap-small}
+use Rattle.lowerstate.proofs.Laws.{wrote}
+use Rattle.lowerstate.proofs.Numbers.{got}
+use Rattle.lowerstate.proofs.Room.{held-below, stored-within}
 use Rattle.lowerstate.proofs.Places.{stands-first, stands-left, stands-right}
 use Rattle.lowerstate.proofs.Pieces.{adjust}
 use Rattle.lowerstate.proofs.Jumps.{label-does, jump-does, branch-does}
@@ -148,3 +158,38 @@ module _ (r : Fixed) (c : Call) (call : IsCall r c) where
         (solid-one (is_before (standing (take x.place c.ops)) to.0) (before-place c.ops at x.place to before label)))
         (subst (λ b. Moved r c x (op.Branch left test 0 to None) (if b then standing_at c.ops to.0 else x.place + 1) hand s m) met
         (branch-does r c call x s m hand few related left test v 0 to is reg paid)) rest
+
+-- ---- operations that write a value to a free register
+
+module _ (r : Fixed) (c : Call) (call : IsCall r c) {A : Type 0} (D : A → State → Counted → Type 0) (run : Ran UndefinedStep State A)
+    (x : Point) (s : State) (m : Counted) (q hand : ℕ) (free : c.variables ≤ q) (below : AllByRecursion (λ k. k.register < q) x.kept) where
+  pub go-constant : (n : ℕ) (sign : Sign) → n < 2 ^ 32 → slice_get c.ops x.place ≡ Some (op.Constant (register q) n)
+      → slice_get c.widths q ≡ Some B4 → 5 + hand ≤ x.hand → Related r c x s m
+      → ((m' : Counted) → Related r c (record x {
+        place = x.place + 1;
+        kept = record { register = q; meant = word sign; datum = Number n } ∷ x.kept;
+        hand = hand;
+      }) s m' → Does r D run m') → Does r D run m
+  go-constant n sign small is width paid related rest =
+      let done = wrote r c call x s m (op.Constant (register q) n) (register q) B4 (word sign) (Number n) n hand x.kept related is width
+      free below related.kept refl (wrap-small B4 n small, small) paid in
+      simulates-from (counted r.program r.addresses) (Ends r) D run m done.0 done.1 (rest done.0 done.2)
+
+  pub go-copy : (from : ℕ) (t : Meant) (d : Datum) → slice_get c.ops x.place ≡ Some (op.Copy (register q) (register from))
+      → slice_get c.widths q ≡ Some (meant_width t) → 7 + hand ≤ x.hand
+      → Related r c (record x { kept = record { register = from; meant = t; datum = d } ∷ x.kept }) s m
+      → ((m' : Counted) → Related r c (record x {
+        place = x.place + 1;
+        kept = record { register = q; meant = t; datum = d } ∷ x.kept;
+        hand = hand;
+      }) s m' → Does r D run m') → Does r D run m
+  go-copy from t d is width paid related rest =
+      let y : Point = record x { kept = record { register = from; meant = t; datum = d } ∷ x.kept } in
+      let k : OpKind = op.Copy (register q) (register from) in
+      let old = related.kept.0 in
+      let small = held-below r.layouts (homes_with c related.later) t d old.0 (stored-within r c y s m related) old.2 in
+      let same : wrap (meant_width t) old.0 ≡ old.0 = wrap-small (meant_width t) old.0 small in
+      let done = wrote r c call y s m k (register q) (meant_width t) t d old.0 hand x.kept related is width
+      free below related.kept.1 (got (charged k m.state) (register from) old.0 _ old.1)
+      (subst (λ v. Held r.layouts (homes_with c related.later) t d v) (sym same) old.2) paid in
+      simulates-from (counted r.program r.addresses) (Ends r) D run m done.0 done.1 (rest done.0 done.2)

@@ -1,5 +1,5 @@
 -- Codes that end in one of several ways: what may be said less of them, a step before them, and one behind another.
-use Rattle.std.proofs.Common.{◌≡◌, ℕ, ◌+◌, ◌<◌, ◌≤◌, ◌++◌, length, refl, sym, subst, ap, ◌∙◌, arith, Option, Some, None, length-append}
+use Rattle.std.proofs.Common.{◌≡◌, ◌⊎◌, inl, inr, ℕ, ◌+◌, ◌<◌, ◌≤◌, ◌++◌, length, refl, sym, subst, ap, ◌∙◌, arith, Option, Some, None, length-append}
 use Rattle.std.specs.List.{AllByRecursion}
 use Rattle.behaviour.specs.Ran.{Ran, Done, Stopped, and_then}
 use Rattle.behaviour.specs.Simulates.{Simulates, Stands}
@@ -87,6 +87,18 @@ module _ (r : Fixed) (c : Call) where
         (record y { place = standing_at c.ops at.0; hand = hand; owed = owed; steps = steps }) s m refl less few fewer at.2 at.2.kept,
   )
   ended-less e y place hand owed steps same less few fewer (Returned v) s m at = absurd at
+
+  -- It has ended at the end of its code, or it is somewhere else for good.
+  pub ended-case : (e : Exits) (y : Point) (place hand owed steps : ℕ) → hand ≤ y.hand → y.owed ≤ owed → steps ≤ y.steps
+      → (flow : Flow) (s : State) (m : Counted) → Ended r c e y flow s m
+      → ((flow ≡ Next) × Related r c y s m)
+      ⊎ Ended r c e (record y { place = place; hand = hand; owed = owed; steps = steps }) flow s m
+  ended-case e y place hand owed steps less few fewer Next s m at = inl (refl, at)
+  ended-case e y place hand owed steps less few fewer Broke s m at =
+      inr (ended-less e y y.place hand owed steps refl less few fewer Broke s m at)
+  ended-case e y place hand owed steps less few fewer Continued s m at =
+      inr (ended-less e y y.place hand owed steps refl less few fewer Continued s m at)
+  ended-case e y place hand owed steps less few fewer (Returned v) s m at = absurd at
 
   more-exits : (e : Exits) (y : Point) (flow : Flow) (s : State) (m : Counted) → Ended r c no_exits y flow s m → Ended r c e y flow s m
   more-exits e y Next s m at = at

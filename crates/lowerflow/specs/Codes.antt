@@ -57,7 +57,7 @@ abbrev pub logical_code : LogicalOperator → Free → Code → Code → Code
 logical_code o f a b =
     let to = register (next_register f (joined a b)) in
     record {
-      ops = a.ops ++ test_op (decided o) f.label a.result ∷ (b.ops ++ test_op (decided o) f.label b.result ∷
+      ops = (test_code (decided o) f.label a).ops ++ ((test_code (decided o) f.label b).ops ++
           op.Constant to (truth_value (undecided o)) ∷ op.Jump (label (f.label + 1)) ∷ op.Label (label f.label) ∷
           op.Constant to (truth_value (decided o)) ∷ op.Label (label (f.label + 1)) ∷ []);
       widths = (a.widths ++ b.widths) ++ B4 ∷ [];
@@ -65,12 +65,12 @@ logical_code o f a b =
       result = next_register f (joined a b);
     }
 
--- A value by a condition: labels are the second arm, and the end.
+-- A value by a test: labels are the second arm, and the end.
 abbrev pub conditional_code : Width → Free → Code → Code → Code → Code
 conditional_code w f k a b =
     let to = register (next_register f (joined k (joined a b))) in
     record {
-      ops = k.ops ++ test_op false f.label k.result ∷ (a.ops ++ op.Copy to (register a.result) ∷ op.Jump (label (f.label + 1)) ∷
+      ops = k.ops ++ (a.ops ++ op.Copy to (register a.result) ∷ op.Jump (label (f.label + 1)) ∷
           op.Label (label f.label) ∷ (b.ops ++ op.Copy to (register b.result) ∷ op.Label (label (f.label + 1)) ∷ []));
       widths = (k.widths ++ (a.widths ++ b.widths)) ++ w ∷ [];
       labels = 2 + (k.labels + (a.labels + b.labels));
@@ -79,7 +79,7 @@ conditional_code w f k a b =
 
 -- ---- choices of what is done
 
--- Labels are the second arm, and the end.
+-- One of two by a test: labels are the second arm, and the end.
 abbrev pub either_code : Free → Code → Code → Code → Code
 either_code f k a b = record {
   ops = k.ops ++ (a.ops ++ op.Jump (label (f.label + 1)) ∷ op.Label (label f.label) ∷ (b.ops ++ op.Label (label (f.label + 1)) ∷ []));
@@ -88,7 +88,7 @@ either_code f k a b = record {
   result = 0;
 }
 
--- The label is the end.
+-- What is done where a test doesn't jump: the label is the end.
 abbrev pub if_code : Free → Code → Code → Code
 if_code f k a = record {
   ops = k.ops ++ (a.ops ++ op.Label (label f.label) ∷ []);
@@ -99,7 +99,7 @@ if_code f k a = record {
 
 -- ---- loops: labels are their beginning, where a continue goes, and their end
 
--- a condition, the body, and what is done behind each turn
+-- a test that jumps out, the body, and what is done behind each turn
 abbrev pub loop_code : Free → Code → Code → Code → Code
 loop_code f k a third = record {
   ops = op.Label (label f.label) ∷ (k.ops ++ (a.ops ++ op.Label (label (f.label + 1)) ∷ (third.ops ++
@@ -109,7 +109,7 @@ loop_code f k a third = record {
   result = 0;
 }
 
--- the body, and the condition behind it
+-- the body, and the test behind it, which jumps back
 abbrev pub do_code : Free → Code → Code → Code
 do_code f a k = record {
   ops = op.Label (label f.label) ∷ (a.ops ++ op.Label (label (f.label + 1)) ∷ (k.ops ++ op.Label (label (f.label + 2)) ∷ []));
