@@ -3,3 +3,4 @@ pub mod Walk
 pub mod Ways
 pub mod Testing
 pub mod Logic
+pub mod Choices
