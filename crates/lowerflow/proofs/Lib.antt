@@ -4,3 +4,4 @@ pub mod Ways
 pub mod Testing
 pub mod Logic
 pub mod Choices
+pub mod Loops

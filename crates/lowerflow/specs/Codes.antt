@@ -10,6 +10,7 @@ use Rattle.midcode.specs.declared.op.Test.TheVariants as test
 use Rattle.midcode.specs.declared.op.OpKind.{OpKind}
 use Rattle.midcode.specs.declared.op.OpKind.TheVariants as op
 use Rattle.lowerstate.specs.Piece.{Code, Free, joined, next_register, register}
+use Rattle.lowerflow.specs.Goes.{Exits}
 
 abbrev pub label : ℕ → Label
 label n = record { 0 = n }
@@ -98,6 +99,9 @@ if_code f k a = record {
 }
 
 -- ---- loops: labels are their beginning, where a continue goes, and their end
+
+abbrev pub loop_exits : Free → Exits
+loop_exits f = record { broke = Some (f.label + 2); continued = Some (f.label + 1) }
 
 -- a test that jumps out, the body, and what is done behind each turn
 abbrev pub loop_code : Free → Code → Code → Code → Code
