@@ -1,2 +1,5 @@
+pub mod Code
 pub mod Codes
 pub mod Goes
+pub mod Nodes
+pub mod Typed
