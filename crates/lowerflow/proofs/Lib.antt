@@ -5,3 +5,5 @@ pub mod Testing
 pub mod Logic
 pub mod Choices
 pub mod Loops
+pub mod EachKind
+pub mod Values

@@ -1,8 +1,8 @@
--- When an expression of a checked program is well typed: what each place is a part of, what each pointer points to, and what each value
+-- When an expression or a statement of a checked program is well typed: what each place is a part of, what each pointer points to, and what each value
 -- is of. A checked program's own types tell of a pointer only whether it is volatile and how its elements are spaced; here its target is
 -- told too, by the number of a layout.
-use Rattle.std.specs.Prelude.{ℕ, ◌≡◌, ◌+◌, ◌^◌, ◌<◌, ◌≤◌, ◌⊎◌, List, [], ◌∷◌, length, Option, Some, None, slice_get, ◌*◌, ⊤}
-use Rattle.prunum.specs.Width.{byte_count}
+use Rattle.std.specs.Prelude.{ℕ, ◌≡◌, ◌+◌, ◌^◌, ◌<◌, ◌≤◌, ◌⊎◌, List, [], ◌∷◌, length, Option, Some, None, slice_get, drop, ◌*◌, ⊤}
+use Rattle.std.specs.Global.{Box}
 use Rattle.prunum.specs.declared.width.Width.TheVariants.{B4}
 use Rattle.csyn.specs.declared.specifiers.Sign.{Sign}
 use Rattle.csyn.specs.declared.specifiers.Sign.TheVariants.{Signed, Unsigned}
@@ -21,7 +21,19 @@ use Rattle.cprogram.specs.declared.value.CallResult.{CallResult}
 use Rattle.cprogram.specs.declared.value.CallResult.TheVariants.{Void, Unused, Used}
 use Rattle.cprogram.specs.declared.value.PlaceKind as place
 use Rattle.cprogram.specs.declared.value.ValueKind as value
+use Rattle.cprogram.specs.declared.value.Operand.{Operand}
 use Rattle.cprogram.specs.declared.value.Operands as operands
+use Rattle.cprogram.specs.declared.value.Value.{Value}
+use Rattle.cprogram.specs.declared.statement.Declaration.{Declaration}
+use Rattle.cprogram.specs.declared.statement.Declarations as declarations
+use Rattle.cprogram.specs.declared.statement.ForFirst.{ForFirst}
+use Rattle.cprogram.specs.declared.statement.ForFirst.TheVariants as first
+use Rattle.cprogram.specs.declared.statement.Initialiser.{Initialiser}
+use Rattle.cprogram.specs.declared.statement.Initialiser.TheVariants as initialiser
+use Rattle.cprogram.specs.declared.statement.Items as items
+use Rattle.cprogram.specs.declared.statement.LeafValues as leaves
+use Rattle.cprogram.specs.declared.statement.StmtKind as stmt
+use Rattle.cprogram.specs.declared.statement.SwitchItems as switch
 use Rattle.lowerstate.specs.Held.{Meant, OfInteger, ToPlain, ToVolatile, meant_width, Part, Laid}
 use Rattle.lowerstate.specs.Conversion.{integer, IsConversion}
 
@@ -45,6 +57,7 @@ pub record Declared : Type 0 where
   pub locals : List Laid
   pub objects : List Laid  -- those that aren't volatile
   pub functions : List Signature
+  pub result : Option Meant  -- of the function
 
 -- a value's type as the checked program has it
 abbrev pub scalar_of : Meant → Scalar
@@ -189,3 +202,74 @@ module _ (d : Declared) where
     AreValuesOf operands.End (t ∷ ts) = ⊥
     AreValuesOf (operands.More' _ c _ v _ rest) [] = ⊥
     AreValuesOf (operands.More' _ c _ v _ rest) (t ∷ ts) = (u : Option Meant) × IsValueOf v u × IsConverted c u t × AreValuesOf rest ts
+
+  -- ---- statements
+
+  -- a value, or none where it is of type void
+  abbrev pub IsEffect : Option (Box Value) → Type 0
+  IsEffect None = ⊤
+  IsEffect (Some v) = (t : Option Meant) × IsValueOf v.value.kind t
+
+  abbrev pub IsCondition : Value → Type 0
+  IsCondition v = (t : Meant) × IsValueOf v.kind (Some t)
+
+  abbrev pub IsOptionalCondition : Option (Box Value) → Type 0
+  IsOptionalCondition None = ⊤
+  IsOptionalCondition (Some v) = IsCondition v.value
+
+  abbrev pub IsOperandOf : Operand → Meant → Type 0
+  IsOperandOf o t = (u : Option Meant) × IsValueOf o.value.kind u × IsConverted o.conversion u t
+
+  abbrev pub AreLeafValues : List Part → leaves.LeafValues → Type 0
+  AreLeafValues parts leaves.End = ⊤
+  AreLeafValues [] (leaves.Value' o _ rest) = ⊥
+  AreLeafValues (part ∷ parts) (leaves.Value' o _ rest) = IsOperandOf o.value part.meant × AreLeafValues parts rest
+  AreLeafValues parts (leaves.Zeros' n _ rest) = (n ≤ length parts) × AreLeafValues (drop n parts) rest
+
+  abbrev pub IsInitialiser : Laid → Option Initialiser → Type 0
+  IsInitialiser laid None = ⊤
+  IsInitialiser laid (Some (initialiser.Scalar o)) =
+      (t : Meant) × (slice_get laid.parts 0 ≡ Some (record { meant = t; offset = 0 })) × IsOperandOf o.value t
+  IsInitialiser laid (Some (initialiser.Leaves values)) = AreLeafValues laid.parts values
+
+  abbrev pub IsDeclaration : Declaration → Type 0
+  IsDeclaration l = (laid : Laid) × (slice_get d.locals l.local.0 ≡ Some laid) × IsInitialiser laid l.initialiser
+
+  abbrev pub AreDeclarations : declarations.Declarations → Type 0
+  AreDeclarations declarations.End = ⊤
+  AreDeclarations (declarations.More' l _ rest) = IsDeclaration l.value × AreDeclarations rest
+
+  abbrev pub IsFirstOf : ForFirst → Type 0
+  IsFirstOf (first.Declarations ds) = AreDeclarations ds
+  IsFirstOf (first.Expression v) = IsEffect v
+
+  abbrev pub IsReturned : Option (Box Operand) → Option Meant → Type 0
+  IsReturned None t = ⊤
+  IsReturned (Some o) None = ⊥
+  IsReturned (Some o) (Some t) = IsOperandOf o.value t
+
+  abbrev mutual
+    pub IsStatement : stmt.StmtKind → Type 0
+    IsStatement (stmt.Block list) = AreItems list
+    IsStatement (stmt.Expression v) = IsEffect v
+    IsStatement (stmt.If' c _ _ a) = IsCondition c.value × IsStatement a
+    IsStatement (stmt.IfElse' c _ _ a _ _ b) = IsCondition c.value × IsStatement a × IsStatement b
+    IsStatement (stmt.While' c _ _ a) = IsCondition c.value × IsStatement a
+    IsStatement (stmt.Do' _ _ a c) = IsStatement a × IsCondition c.value
+    IsStatement (stmt.For' f c third _ _ a _) = IsFirstOf f × IsOptionalCondition c × IsEffect third × IsStatement a
+    IsStatement (stmt.Switch o list) = ((z : Sign) × IsOperandOf o.value (number z)) × AreSwitchItems list
+    IsStatement stmt.Break = ⊤
+    IsStatement stmt.Continue = ⊤
+    IsStatement (stmt.Return o) = IsReturned o d.result
+    IsStatement (stmt.Region r list) = AreItems list
+
+    pub AreItems : items.Items → Type 0
+    AreItems items.End = ⊤
+    AreItems (items.Declaration' l _ rest) = IsDeclaration l.value × AreItems rest
+    AreItems (items.Statement' _ _ a _ rest) = IsStatement a × AreItems rest
+
+    pub AreSwitchItems : switch.SwitchItems → Type 0
+    AreSwitchItems switch.End = ⊤
+    AreSwitchItems (switch.Case' _ n _ rest) = (n < 2 ^ 32) × AreSwitchItems rest
+    AreSwitchItems (switch.Default' _ _ rest) = AreSwitchItems rest
+    AreSwitchItems (switch.Statement' _ _ a _ rest) = IsStatement a × AreSwitchItems rest
