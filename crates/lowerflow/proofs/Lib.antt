@@ -7,3 +7,4 @@ pub mod Choices
 pub mod Loops
 pub mod EachKind
 pub mod Values
+pub mod Statements
