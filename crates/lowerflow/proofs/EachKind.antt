@@ -39,7 +39,7 @@ use Rattle.lowerflow.specs.Typed.{Declared, Placed, Leaves, OutsideCore, OfCore,
 use Rattle.lowerflow.proofs.Testing.{test-of}
 use Rattle.lowerflow.proofs.Ways.{dropped, less-back, void-node, then-of, value-behind}
 use Rattle.lowerflow.proofs.Logic.{logical-of}
-use Rattle.lowerflow.proofs.Choices.{conditional-of, either-of}
+use Rattle.lowerflow.proofs.Chosen.{conditional-of, either-of}
 
 pub bound : (o : Option Code) (make : Code → Option Code) (P Q : Code → Type 0) → Meets P o → ((a : Code) → P a → Meets Q (make a))
     → Meets Q (with_code o make)

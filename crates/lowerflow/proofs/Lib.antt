@@ -3,8 +3,10 @@ pub mod Walk
 pub mod Ways
 pub mod Testing
 pub mod Logic
-pub mod Choices
-pub mod Loops
+pub mod Chosen
+pub mod Turning
+pub mod Regions
 pub mod EachKind
 pub mod Values
-pub mod Statements
+pub mod EachStatement
+pub mod Samples

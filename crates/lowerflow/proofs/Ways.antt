@@ -17,7 +17,7 @@ use Rattle.lowerstate.specs.Piece.{Code, Free, behind, joined, node_back, least_
 use Rattle.lowerstate.proofs.Laws.{tick-does}
 use Rattle.lowerstate.proofs.Places.{stands-left, stands-right, get-further}
 use Rattle.lowerstate.proofs.Pieces.{below-more, adjust}
-use Rattle.lowerflow.specs.Goes.{Exits, no_exits, past, Landed, Ended, Goes, always_next, itself}
+use Rattle.lowerflow.specs.Goes.{Exits, no_exits, past, Landed, Ended, Goes, Begins, step_hand, always_next, itself}
 
 -- ---- runs
 
@@ -129,29 +129,6 @@ module _ (r : Fixed) (c : Call) where
           (omega (arith, few)) (omega arith) (omega arith) (flow a) s m at));
     }
 
-    -- behind the step of a statement
-    pub entered-of : (e : Exits) → Goes r c e f code flow run nodes back → Goes r c e f code flow (entered run) (nodes + 1) node_back
-    entered-of e first = record {
-      does = λ x hand s m stands ready related.
-          let y : Point = stepped x (least_hand + (hand + 400)) in
-          does-then r (λ _. Related r c y) (EndedBy e (past x code (nodes + 1) (hand + node_back))) (tick r.budget s)
-          (λ _. run r.budget) m
-          (tick-does r c x s m (least_hand + (hand + 400)) (let in_hand = ready.in_hand in omega (arith, in_hand))
-          (let owed = ready.owed in omega (arith, owed)) related)
-          (λ _ s m at. does-more r (EndedBy e (past y code nodes (hand + 400 + back)))
-          (EndedBy e (past x code (nodes + 1) (hand + node_back))) (run r.budget s) m
-          (first.does y (hand + 400) s m stands
-          (record {
-            in_hand = refl;
-            owed = let owed = ready.owed in omega (arith, owed);
-            kept = ready.kept;
-            apart = ready.apart;
-          }) at)
-          (λ a s m on. does-here r (EndedBy e (past x code (nodes + 1) (hand + node_back))) a s m
-          (ended-less e (past y code nodes (hand + 400 + back)) (x.place + length code.ops) (hand + node_back) (x.owed + (nodes + 1)) x.steps
-          refl (omega arith) (omega arith) (omega arith) (flow a) s m on)));
-    }
-
     -- what a run gives is given as something else
     pub giving-of : {B : Type 0} (e : Exits) (other : B → Flow) (g : A → B) → ((a : A) → other (g a) ≡ flow a)
         → Goes r c e f code flow run nodes back → Goes r c e f code other (then_with run (λ a. give (g a))) nodes back
@@ -161,6 +138,42 @@ module _ (r : Fixed) (c : Call) where
           does-then r (EndedBy e y) (λ b. Ended r c e y (other b)) (run r.budget s) (λ a. give (g a) r.budget) m
           (first.does x hand s m stands ready related)
           (λ a s m at. does-here r (λ b. Ended r c e y (other b)) (g a) s m (subst (λ o. Ended r c e y o s m) (sym (same a)) at));
+    }
+
+  -- ---- the step of a statement
+
+  module _ (e : Exits) (f : Free) (code : Code) (run : Run Flow) (nodes : ℕ) where
+    -- what needs no more than any code has in hand
+    pub begins-of : (back : ℕ) → Goes r c e f code itself run nodes back → Begins r c e f code run nodes
+    begins-of back first = record {
+      does = λ x hand s m stands ready related.
+          does-more r (Ended r c e (past x code nodes (step_hand + hand + back))) (Ended r c e (past x code nodes hand)) (run r.budget s) m
+          (first.does x (step_hand + hand) s m stands ready related)
+          (λ a s m on. does-here r (Ended r c e (past x code nodes hand)) a s m
+          (ended-less e (past x code nodes (step_hand + hand + back)) (x.place + length code.ops) hand (x.owed + nodes) x.steps
+          refl (omega arith) (omega arith) (omega arith) a s m on));
+    }
+
+    pub entered-of : Begins r c e f code run nodes → Goes r c e f code itself (entered run) (nodes + 1) node_back
+    entered-of first = record {
+      does = λ x hand s m stands ready related.
+          let y : Point = stepped x (least_hand + (step_hand + (hand + 320))) in
+          does-then r (λ _. Related r c y) (Ended r c e (past x code (nodes + 1) (hand + node_back))) (tick r.budget s)
+          (λ _. run r.budget) m
+          (tick-does r c x s m (least_hand + (step_hand + (hand + 320))) (let in_hand = ready.in_hand in omega (arith, in_hand))
+          (let owed = ready.owed in omega (arith, owed)) related)
+          (λ _ s m at. does-more r (Ended r c e (past y code nodes (hand + 320)))
+          (Ended r c e (past x code (nodes + 1) (hand + node_back))) (run r.budget s) m
+          (first.does y (hand + 320) s m stands
+          (record {
+            in_hand = refl;
+            owed = let owed = ready.owed in omega (arith, owed);
+            kept = ready.kept;
+            apart = ready.apart;
+          }) at)
+          (λ a s m on. does-here r (Ended r c e (past x code (nodes + 1) (hand + node_back))) a s m
+          (ended-less e (past y code nodes (hand + 320)) (x.place + length code.ops) (hand + node_back) (x.owed + (nodes + 1)) x.steps
+          refl (omega arith) (omega arith) (omega arith) a s m on)));
     }
 
   -- ---- a value that isn't used

@@ -10,7 +10,7 @@ use Rattle.cmean.specs.Statement.{stmt_kind}
 use Rattle.lowerstate.specs.Held.{Meant, Laid, Home, InRegister}
 use Rattle.lowerstate.specs.Related.{Fixed, Call}
 use Rattle.lowerstate.specs.Piece.{Code, Free, node_back, Evaluates, IsValue}
-use Rattle.lowerflow.specs.Goes.{Exits, no_exits, Goes, always_next, itself}
+use Rattle.lowerflow.specs.Goes.{Exits, no_exits, Goes, Begins, always_next}
 use Rattle.lowerflow.specs.Nodes.{value_nodes, stmt_nodes}
 use Rattle.lowerflow.specs.Typed.{Declared, IsValueOf, IsStatement}
 use Rattle.lowerflow.specs.Code.{value_code, stmt_code}
@@ -38,4 +38,4 @@ ValueLaw r c d calls = (v : ValueKind) (span : Span) (f : Free) (t : Option Mean
 -- what the code of a statement does behind the statement's own step
 abbrev pub StatementLaw : Fixed → Call → Declared → Calls → List Shape → Type 0
 StatementLaw r c d calls shapes = (v : StmtKind) (e : Exits) (f : Free) → IsStatement d v
-    → Meets (λ code. Goes r c e f code itself (stmt_kind calls shapes v) (stmt_nodes v) 0) (stmt_code c.own e f v)
+    → Meets (λ code. Begins r c e f code (stmt_kind calls shapes v) (stmt_nodes v)) (stmt_code c.own e f v)

@@ -24,7 +24,7 @@ use Rattle.lowerstate.specs.Conversion.{conversion_code, not_code}
 use Rattle.lowerstate.specs.Codes.{constant_code, unary_code, pair_code, comparison_code, copy_code, assign_code}
 use Rattle.lowerflow.specs.Goes.{Exits, no_exits}
 use Rattle.lowerflow.specs.Codes.{label, reserve, no_code, op_code, test_code, logical_code, conditional_code, either_code}
-use Rattle.lowerflow.specs.Codes.{if_code, loop_exits, loop_code, do_code}
+use Rattle.lowerflow.specs.Codes.{if_code, region_code, loop_exits, loop_code, do_code}
 
 -- a code made of another, where there is one
 abbrev pub with_code : Option Code → (Code → Option Code) → Option Code
@@ -152,7 +152,7 @@ module _ (homes : List Home) where
     stmt_code e f stmt.Continue = exit_code e.continued
     stmt_code e f (stmt.Switch o list) = None
     stmt_code e f (stmt.Return o) = None
-    stmt_code e f (stmt.Region r list) = None
+    stmt_code e f (stmt.Region r list) = with_code (items_code no_exits f list) (λ a. Some (region_code r.0 a))
 
     pub items_code : Exits → Free → items.Items → Option Code
     items_code e f items.End = Some no_code

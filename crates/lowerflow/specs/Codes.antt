@@ -7,6 +7,7 @@ use Rattle.csyn.specs.declared.operator.LogicalOperator.TheVariants.{And, Or}
 use Rattle.midcode.specs.declared.register.Label.{Label}
 use Rattle.midcode.specs.declared.op.Test.{Test}
 use Rattle.midcode.specs.declared.op.Test.TheVariants as test
+use Rattle.midcode.specs.declared.op.Mark.TheVariants as mark
 use Rattle.midcode.specs.declared.op.OpKind.{OpKind}
 use Rattle.midcode.specs.declared.op.OpKind.TheVariants as op
 use Rattle.lowerstate.specs.Piece.{Code, Free, joined, next_register, register}
@@ -24,6 +25,10 @@ no_code = record { ops = []; widths = []; labels = 0; result = 0 }
 
 abbrev pub op_code : OpKind → Code
 op_code k = record { ops = k ∷ []; widths = []; labels = 0; result = 0 }
+
+-- what stands in a region, between its marks
+abbrev pub region_code : ℕ → Code → Code
+region_code n a = record a { ops = op.Mark (mark.Enter n) ∷ (a.ops ++ op.Mark (mark.Leave n) ∷ []) }
 
 -- ---- conditions
 

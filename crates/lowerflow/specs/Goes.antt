@@ -39,6 +39,15 @@ pub record Goes (r : Fixed) (c : Call) (e : Exits) (f : Free) (code : Code) {A :
   pub does : (x : Point) (hand : ℕ) (s : State) (m : Counted) → IsIn c f code x.place → IsReady r c f nodes hand x → Related r c x s m
       → Does r (λ a. Ended r c e (past x code nodes (hand + back)) (flow a)) (run r.budget s) m
 
+-- what the step of a statement has paid for behind itself
+abbrev pub step_hand : ℕ
+step_hand = 100
+
+-- The same of a statement behind its own step, which is paid for; nothing of that is left behind the statement.
+pub record Begins (r : Fixed) (c : Call) (e : Exits) (f : Free) (code : Code) (run : Run Flow) (nodes : ℕ) : Type 0 where
+  pub does : (x : Point) (hand : ℕ) (s : State) (m : Counted) → IsIn c f code x.place → IsReady r c f nodes (step_hand + hand) x
+      → Related r c x s m → Does r (Ended r c e (past x code nodes hand)) (run r.budget s) m
+
 abbrev pub always_next : {A : Type 0} → A → Flow
 always_next a = Next
 

@@ -3,15 +3,16 @@ use Rattle.std.specs.Prelude.{ℕ, ◌≡◌, ◌+◌, Bool, true, false, if◌t
 use Rattle.behaviour.specs.Ran.{Turn, Again, Over}
 use Rattle.csyn.specs.declared.specifiers.Sign.{Sign}
 use Rattle.csyn.specs.declared.operator.LogicalOperator.{LogicalOperator}
+use Rattle.prutrace.specs.declared.event.Event.TheVariants as event
 use Rattle.cmean.specs.Datum.{Datum}
-use Rattle.cmean.specs.State.{Run, give, then_with, then_do, entered}
+use Rattle.cmean.specs.State.{Run, give, then_with, then_do, tick, mark_now, entered}
 use Rattle.cmean.specs.Expression.{Valued, valued, truth, logical}
 use Rattle.cmean.specs.Statement.{Flow, Next, Broke, Continued, loop, if_true, do_loop, then_next}
 use Rattle.lowerstate.specs.Held.{Meant, meant_width}
 use Rattle.lowerstate.specs.Related.{Fixed, Call}
 use Rattle.lowerstate.specs.Piece.{Code, Free, behind, joined, node_back, least_hand, Evaluates, IsValue, IsDatum, word}
-use Rattle.lowerflow.specs.Goes.{Exits, no_exits, Goes, always_next, itself, Tests}
-use Rattle.lowerflow.specs.Codes.{reserve, test_code, logical_code, conditional_code, either_code, if_code, loop_exits, loop_code, do_code}
+use Rattle.lowerflow.specs.Goes.{Exits, no_exits, Goes, Begins, always_next, itself, Tests}
+use Rattle.lowerflow.specs.Codes.{reserve, test_code, logical_code, conditional_code, region_code, either_code, if_code, loop_exits, loop_code, do_code}
 
 module _ (r : Fixed) (c : Call) where
   -- a value, and a jump by its truth
@@ -53,7 +54,7 @@ module _ (r : Fixed) (c : Call) where
   abbrev pub LoopLaw : Type 0
   LoopLaw = (e : Exits) (f : Free) (k a third : Code) (cond : Run Bool) (run : Run Flow) (behind_run : Run (Unit {0}))
       (rest : Flow → Run (Turn Flow)) (nodes n1 n2 : ℕ) → Tests r c (reserve 3 f) k false (f.label + 2) cond nodes least_hand
-      → Goes r c (loop_exits f) (behind (reserve 3 f) k) a itself run n1 0
+      → Begins r c (loop_exits f) (behind (reserve 3 f) k) a run n1
       → Goes r c no_exits (behind (behind (reserve 3 f) k) a) third always_next behind_run n2 least_hand
       → rest Next ≡ then_do behind_run (give Again) → rest Continued ≡ then_do behind_run (give Again) → rest Broke ≡ give (Over Next)
       → Goes r c e f (loop_code f k a third) itself (loop (if_true cond (then_with (entered run) rest) Next)) (nodes + (n1 + 1 + n2)) 0
@@ -61,9 +62,20 @@ module _ (r : Fixed) (c : Call) where
   -- a loop with its test last
   abbrev pub DoLaw : Type 0
   DoLaw = (e : Exits) (f : Free) (a k : Code) (t : Meant) (run : Run Flow) (value : Run Valued) (n1 nodes : ℕ)
-      → Goes r c (loop_exits f) (reserve 3 f) a itself run n1 0
+      → Begins r c (loop_exits f) (reserve 3 f) a run n1
       → Evaluates r c (behind (reserve 3 f) a) k IsValue t value nodes node_back
       → Goes r c e f (do_code f a (test_code true f.label k)) itself (do_loop (entered run) (truth value)) (n1 + 1 + nodes) 0
+
+  -- a statement with its own step
+  abbrev pub StepLaw : Type 0
+  StepLaw = (e : Exits) (f : Free) (code : Code) (run : Run Flow) (nodes : ℕ) → Begins r c e f code run nodes
+      → Goes r c e f code itself (entered run) (nodes + 1) node_back
+
+  -- a region, which is left at its end alone
+  abbrev pub RegionLaw : Type 0
+  RegionLaw = (e : Exits) (f : Free) (n : ℕ) (a : Code) (run : Run Flow) (nodes : ℕ) → Goes r c no_exits f a itself run nodes least_hand
+      → Begins r c e f (region_code n a) (then_do (mark_now (event.Enter n)) (then_with run (λ flow. then_do tick
+      (then_do (mark_now (event.Leave n)) (give flow))))) (nodes + 1)
 
   -- a statement, and what follows where it is come to
   abbrev pub NextLaw : Type 0

@@ -3,7 +3,7 @@ ghost use Rattle.cprogram.specs.Layout.{Shape};
 ghost use Rattle.cmean.specs.Expression.{Calls};
 ghost use Rattle.lowerstate.specs.Related.{Fixed, Call, IsCall};
 ghost use Rattle.lowerflow.specs.Claims.{AreDeclared, ValueLaw, StatementLaw};
-ghost use Rattle.lowerflow.specs.Laws.{TestLaw, LogicalLaw, ConditionalLaw, EitherLaw, IfLaw, LoopLaw, DoLaw, NextLaw};
+ghost use Rattle.lowerflow.specs.Laws.{TestLaw, LogicalLaw, ConditionalLaw, EitherLaw, IfLaw, LoopLaw, DoLaw, StepLaw, RegionLaw, NextLaw};
 ghost use Rattle.lowerflow.specs.Typed.{Declared};
 
 /// Tests, and what is chosen by them.
@@ -15,10 +15,12 @@ pub fn choices()
     ensures one { (r : Fixed) (c : Call) → IsCall r c → IfLaw r c }
 {}
 
-/// Loops with their breaks and continues, and statements one after another.
+/// Loops with their breaks and continues, regions, and statements one after another.
 pub fn loops()
     ensures first { (r : Fixed) (c : Call) → IsCall r c → LoopLaw r c }
     ensures last { (r : Fixed) (c : Call) → IsCall r c → DoLaw r c }
+    ensures step { (r : Fixed) (c : Call) → StepLaw r c }
+    ensures region { (r : Fixed) (c : Call) → IsCall r c → RegionLaw r c }
     ensures next { (r : Fixed) (c : Call) → NextLaw r c }
 {}
 

@@ -1,7 +1,7 @@
 use Rattle.lowerflow.specs.Goes.{itself}
 use Rattle.lowerflow.proofs.Testing.{test-of}
 use Rattle.lowerflow.proofs.Logic.{logical-of}
-use Rattle.lowerflow.proofs.Choices.{conditional-of, either-of, if-of}
+use Rattle.lowerflow.proofs.Chosen.{conditional-of, either-of, if-of}
 use Rattle.lowerflow.proofs.theorems.choices.Goals as goal
 
 pub returns : goal.returns

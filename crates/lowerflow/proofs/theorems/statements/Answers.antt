@@ -1,4 +1,4 @@
-use Rattle.lowerflow.proofs.Statements.{stmt-of}
+use Rattle.lowerflow.proofs.EachStatement.{stmt-of}
 use Rattle.lowerflow.proofs.theorems.statements.Goals as goal
 
 pub returns : goal.returns

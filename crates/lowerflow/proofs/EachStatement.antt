@@ -23,17 +23,18 @@ use Rattle.lowerstate.specs.Related.{Fixed, Call, IsCall, Point, Related}
 use Rattle.lowerstate.specs.Piece.{Code, Free, behind, joined, node_back, least_hand}
 use Rattle.lowerstate.proofs.Places.{stands-first}
 use Rattle.lowerstate.proofs.Pieces.{adjust}
-use Rattle.lowerflow.specs.Goes.{Exits, no_exits, past, Ended, Goes, always_next, itself, jumps, Tests}
+use Rattle.lowerflow.specs.Goes.{Exits, no_exits, past, Ended, Goes, Begins, always_next, itself, jumps, Tests}
 use Rattle.lowerflow.specs.Codes.{label, reserve, no_code, op_code, test_code, either_code, if_code, loop_exits, loop_code, do_code}
 use Rattle.lowerflow.specs.Code.{with_code, value_code, effect_code, condition_code, first_code, exit_code, stmt_code, items_code}
 use Rattle.lowerflow.specs.Claims.{Meets, Values, AreDeclared, StatementLaw}
 use Rattle.lowerflow.specs.Nodes.{value_nodes, option_nodes, first_nodes, stmt_nodes, items_nodes}
 use Rattle.lowerflow.specs.Typed.{Declared, IsValueOf, IsEffect, IsOptionalCondition, IsFirstOf, IsStatement, AreItems}
 use Rattle.lowerflow.proofs.Walk.{go-jump}
-use Rattle.lowerflow.proofs.Ways.{does-here, does-more, with-exits, less-back, entered-of, giving-of, then-of, next-of}
+use Rattle.lowerflow.proofs.Ways.{does-here, does-more, with-exits, less-back, begins-of, entered-of, giving-of, then-of, next-of}
 use Rattle.lowerflow.proofs.Testing.{test-of}
-use Rattle.lowerflow.proofs.Choices.{either-of, if-of}
-use Rattle.lowerflow.proofs.Loops.{loop-of, do-of}
+use Rattle.lowerflow.proofs.Chosen.{either-of, if-of}
+use Rattle.lowerflow.proofs.Turning.{loop-of, do-of}
+use Rattle.lowerflow.proofs.Regions.{region-of}
 use Rattle.lowerflow.proofs.EachKind.{bound, unused}
 use Rattle.lowerflow.proofs.Values.{value-of}
 
@@ -148,18 +149,18 @@ module _ (r : Fixed) (c : Call) (call : IsCall r c) (d : Declared) (declared : A
   -- ---- statements
 
   abbrev Stmt : StmtKind → Exits → Free → Code → Type 0
-  Stmt v e f code = Goes r c e f code itself (stmt_kind calls shapes v) (stmt_nodes v) 0
+  Stmt v e f code = Begins r c e f code (stmt_kind calls shapes v) (stmt_nodes v)
 
   abbrev Items : items.Items → Exits → Free → Code → Type 0
   Items list e f code = Goes r c e f code itself (run_items calls shapes list) (items_nodes list) least_hand
 
   entering : (v : StmtKind) (e : Exits) (f : Free) (code : Code) → Stmt v e f code
       → Goes r c e f code itself (entered (stmt_kind calls shapes v)) (stmt_nodes v + 1) node_back
-  entering v e f code first = entered-of r c itself f code (stmt_kind calls shapes v) (stmt_nodes v) 0 e first
+  entering v e f code first = entered-of r c e f code (stmt_kind calls shapes v) (stmt_nodes v) first
 
   exits : (e : Exits) (f : Free) (o : Option ℕ) (flow : Flow)
-      → ((l : ℕ) → o ≡ Some l → Goes r c e f (op_code (op.Jump (label l))) itself (give flow) 0 0)
-      → Meets (λ code. Goes r c e f code itself (give flow) 0 0) (exit_code c.own o)
+      → ((l : ℕ) → o ≡ Some l → Begins r c e f (op_code (op.Jump (label l))) (give flow) 0)
+      → Meets (λ code. Begins r c e f code (give flow) 0) (exit_code c.own o)
   exits e f None flow each = tt
   exits e f (Some l) flow each = each l refl
 
@@ -167,10 +168,10 @@ module _ (r : Fixed) (c : Call) (call : IsCall r c) (d : Declared) (declared : A
     pub stmt-of : StatementLaw r c d calls shapes
     stmt-of (stmt.Block list) e f typed =
         weaker (items_code c.own e f list) (Items list e f) (Stmt (stmt.Block list) e f) (items-of list e f typed)
-        (λ code first. less-back r c itself f code (run_items calls shapes list) (items_nodes list) least_hand e 0 (omega arith) first)
+        (λ code first. begins-of r c e f code (run_items calls shapes list) (items_nodes list) least_hand first)
     stmt-of (stmt.Expression v) e f typed =
         weaker (effect_code c.own f v) (Effect v f) (Stmt (stmt.Expression v) e f) (effect-of v f typed)
-        (λ code first. less-back r c itself f code (then_do (effect calls v) (give Next)) (option_nodes v) least_hand e 0 (omega arith)
+        (λ code first. begins-of r c e f code (then_do (effect calls v) (give Next)) (option_nodes v) least_hand
         (with-exits r c itself f code (then_do (effect calls v) (give Next)) (option_nodes v) least_hand e
         (giving-of r c always_next f code (effect calls v) (option_nodes v) least_hand no_exits itself (λ _. Next) (λ _. refl) first)))
     stmt-of (stmt.If' q bx m a) e f typed =
@@ -178,8 +179,8 @@ module _ (r : Fixed) (c : Call) (call : IsCall r c) (d : Declared) (declared : A
         (value q.value (reserve 1 f) (Some typed.0.0) typed.0.1)
         (λ k cond. bound (stmt_code c.own e (behind (reserve 1 f) k) a) _ (Stmt a e (behind (reserve 1 f) k)) (Stmt (stmt.If' q bx m a) e f)
         (stmt-of a e (behind (reserve 1 f) k) typed.1)
-        (λ x body. less-back r c itself f (if_code f (test_code false f.label k) x) (stmt_kind calls shapes (stmt.If' q bx m a))
-        (value_nodes q.value.kind + (stmt_nodes a + 1)) 300 e 0 (omega arith)
+        (λ x body. begins-of r c e f (if_code f (test_code false f.label k) x) (stmt_kind calls shapes (stmt.If' q bx m a))
+        (value_nodes q.value.kind + (stmt_nodes a + 1)) 300
         (if-of r c call e f (test_code false f.label k) x (truth (value_of calls q)) (entered (stmt_kind calls shapes a))
         (value_nodes q.value.kind) (stmt_nodes a + 1)
         (test-of r c call (reserve 1 f) k typed.0.0 false f.label (value_of calls q) (value_nodes q.value.kind) 312 cond)
@@ -191,9 +192,8 @@ module _ (r : Fixed) (c : Call) (call : IsCall r c) (d : Declared) (declared : A
         (Stmt (stmt.IfElse' q bx m a by n b) e f) (stmt-of a e (behind (reserve 2 f) k) typed.1)
         (λ x body. bound (stmt_code c.own e (behind (behind (reserve 2 f) k) x) b) _ (Stmt b e (behind (behind (reserve 2 f) k) x))
         (Stmt (stmt.IfElse' q bx m a by n b) e f) (stmt-of b e (behind (behind (reserve 2 f) k) x) typed.2)
-        (λ y other. less-back r c itself f (either_code f (test_code false f.label k) x y)
-        (stmt_kind calls shapes (stmt.IfElse' q bx m a by n b)) (value_nodes q.value.kind + (stmt_nodes a + 1 + (stmt_nodes b + 1))) 300 e 0
-        (omega arith)
+        (λ y other. begins-of r c e f (either_code f (test_code false f.label k) x y)
+        (stmt_kind calls shapes (stmt.IfElse' q bx m a by n b)) (value_nodes q.value.kind + (stmt_nodes a + 1 + (stmt_nodes b + 1))) 300
         (either-of r c call e itself f (test_code false f.label k) x y (truth (value_of calls q)) (entered (stmt_kind calls shapes a))
         (entered (stmt_kind calls shapes b)) (value_nodes q.value.kind) (stmt_nodes a + 1) (stmt_nodes b + 1)
         (test-of r c call (reserve 2 f) k typed.0.0 false f.label (value_of calls q) (value_nodes q.value.kind) 312 cond)
@@ -203,19 +203,23 @@ module _ (r : Fixed) (c : Call) (call : IsCall r c) (d : Declared) (declared : A
         (value q.value (reserve 3 f) (Some typed.0.0) typed.0.1)
         (λ k cond. bound (stmt_code c.own (loop_exits f) (behind (reserve 3 f) k) a) _ (Stmt a (loop_exits f) (behind (reserve 3 f) k))
         (Stmt (stmt.While' q bx m a) e f) (stmt-of a (loop_exits f) (behind (reserve 3 f) k) typed.1)
-        (λ x body. loop-of r c call e f (test_code false (f.label + 2) k) x no_code (truth (value_of calls q)) (stmt_kind calls shapes a)
+        (λ x body. begins-of r c e f (loop_code f (test_code false (f.label + 2) k) x no_code) (stmt_kind calls shapes (stmt.While' q bx m a))
+        (value_nodes q.value.kind + (stmt_nodes a + 1 + 0)) 0
+        (loop-of r c call e f (test_code false (f.label + 2) k) x no_code (truth (value_of calls q)) (stmt_kind calls shapes a)
         (give tt) (λ flow. give (after_body flow)) (value_nodes q.value.kind) (stmt_nodes a) 0
         (tests-less r c (reserve 3 f) (test_code false (f.label + 2) k) false (f.label + 2) (truth (value_of calls q))
         (value_nodes q.value.kind) 312 least_hand (omega arith)
         (test-of r c call (reserve 3 f) k typed.0.0 false (f.label + 2) (value_of calls q) (value_nodes q.value.kind) 312 cond)) body
-        (nothing-of r c no_exits (behind (behind (reserve 3 f) k) x) always_next tt refl) refl refl refl))
+        (nothing-of r c no_exits (behind (behind (reserve 3 f) k) x) always_next tt refl) refl refl refl)))
     stmt-of (stmt.Do' bx m a q) e f typed =
         bound (stmt_code c.own (loop_exits f) (reserve 3 f) a) _ (Stmt a (loop_exits f) (reserve 3 f)) (Stmt (stmt.Do' bx m a q) e f)
         (stmt-of a (loop_exits f) (reserve 3 f) typed.0)
         (λ x body. bound (value_code c.own (behind (reserve 3 f) x) q.value.kind) _ (Of q.value (behind (reserve 3 f) x) (Some typed.1.0))
         (Stmt (stmt.Do' bx m a q) e f) (value q.value (behind (reserve 3 f) x) (Some typed.1.0) typed.1.1)
-        (λ k cond. do-of r c call e f x k typed.1.0 (stmt_kind calls shapes a) (value_of calls q) (stmt_nodes a) (value_nodes q.value.kind)
-        body cond))
+        (λ k cond. begins-of r c e f (do_code f x (test_code true f.label k)) (stmt_kind calls shapes (stmt.Do' bx m a q))
+        (stmt_nodes a + 1 + value_nodes q.value.kind) 0
+        (do-of r c call e f x k typed.1.0 (stmt_kind calls shapes a) (value_of calls q) (stmt_nodes a) (value_nodes q.value.kind)
+        body cond)))
     stmt-of (stmt.For' w q third bx m a None) e f typed =
         bound (first_code c.own f w) _ (First w f) (Stmt (stmt.For' w q third bx m a None) e f) (first-of w f typed.0)
         (λ x begin.
@@ -226,18 +230,22 @@ module _ (r : Fixed) (c : Call) (call : IsCall r c) (d : Declared) (declared : A
         (Stmt (stmt.For' w q third bx m a None) e f) (stmt-of a (loop_exits g) (behind (reserve 3 g) k) typed.3)
         (λ y body. bound (effect_code c.own (behind (behind (reserve 3 g) k) y) third) _ (Effect third (behind (behind (reserve 3 g) k) y))
         (Stmt (stmt.For' w q third bx m a None) e f) (effect-of third (behind (behind (reserve 3 g) k) y) typed.2)
-        (λ z last. then-of r c f x (loop_code g k y z) (for_first calls shapes w)
+        (λ z last. begins-of r c e f (joined x (loop_code g k y z)) (stmt_kind calls shapes (stmt.For' w q third bx m a None))
+        (first_nodes w + (option_nodes q + (stmt_nodes a + 1 + option_nodes third))) 0
+        (then-of r c f x (loop_code g k y z) (for_first calls shapes w)
         (for_loop (condition calls q) (effect calls third) (entered (stmt_kind calls shapes a))) (first_nodes w)
         (option_nodes q + (stmt_nodes a + 1 + option_nodes third)) 0 0 e itself begin
         (loop-of r c call e g k y z (condition calls q) (stmt_kind calls shapes a) (effect calls third)
         (behind_body (then_do (effect calls third) (give Again))) (option_nodes q) (stmt_nodes a)
-        (option_nodes third) test body last refl refl refl)))))
+        (option_nodes third) test body last refl refl refl))))))
     stmt-of (stmt.For' w q third bx m a (Some turns)) e f typed = tt
-    stmt-of stmt.Break e f typed = exits e f e.broke Broke (λ l is. break-of r c call e f l is)
-    stmt-of stmt.Continue e f typed = exits e f e.continued Continued (λ l is. continue-of r c call e f l is)
+    stmt-of stmt.Break e f typed = exits e f e.broke Broke (λ l is. begins-of r c e f (op_code (op.Jump (label l))) (give Broke) 0 0 (break-of r c call e f l is))
+    stmt-of stmt.Continue e f typed = exits e f e.continued Continued (λ l is. begins-of r c e f (op_code (op.Jump (label l))) (give Continued) 0 0 (continue-of r c call e f l is))
     stmt-of (stmt.Switch o list) e f typed = tt
     stmt-of (stmt.Return o) e f typed = tt
-    stmt-of (stmt.Region n list) e f typed = tt
+    stmt-of (stmt.Region n list) e f typed =
+        bound (items_code c.own no_exits f list) _ (Items list no_exits f) (Stmt (stmt.Region n list) e f) (items-of list no_exits f typed)
+        (λ a body. region-of r c call e f n.0 a (run_items calls shapes list) (items_nodes list) body)
 
     pub items-of : (list : items.Items) (e : Exits) (f : Free) → AreItems d list → Meets (Items list e f) (items_code c.own e f list)
     items-of items.End e f typed = nothing-of r c e f itself Next refl

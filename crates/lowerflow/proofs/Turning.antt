@@ -18,7 +18,7 @@ use Rattle.lowerstate.proofs.Laws.{tick-does}
 use Rattle.lowerstate.proofs.Places.{stands-left, stands-right}
 use Rattle.lowerstate.proofs.Pieces.{adjust}
 use Rattle.lowerstate.proofs.Turns.{loop-does}
-use Rattle.lowerflow.specs.Goes.{Exits, no_exits, past, Landed, Ended, Goes, always_next, itself, jumps, Tests}
+use Rattle.lowerflow.specs.Goes.{Exits, no_exits, past, Landed, Ended, Goes, Begins, step_hand, always_next, itself, jumps, Tests}
 use Rattle.lowerflow.specs.Codes.{label, reserve, test_code, loop_exits, loop_code, do_code}
 use Rattle.lowerflow.proofs.Walk.{Part, Piece, One, Rest, rest-of, piece, behind-piece, operation, behind-op, at-end}
 use Rattle.lowerflow.proofs.Walk.{label-place, go-label, go-back}
@@ -57,7 +57,7 @@ module _ (r : Fixed) (c : Call) (call : IsCall r c) (e : Exits) (f : Free) (x z 
 module _ (r : Fixed) (c : Call) (call : IsCall r c) (e : Exits) (f : Free) (k a third : Code) (cond : Run Bool) (run : Run Flow)
     (behind_run : Run (Unit {0})) (rest : Flow → Run (Turn Flow)) (nodes n1 n2 : ℕ)
     (test : Tests r c (reserve 3 f) k false (f.label + 2) cond nodes least_hand)
-    (body : Goes r c (loop_exits f) (behind (reserve 3 f) k) a itself run n1 0)
+    (body : Begins r c (loop_exits f) (behind (reserve 3 f) k) a run n1)
     (last : Goes r c no_exits (behind (behind (reserve 3 f) k) a) third always_next behind_run n2 least_hand)
     (on-next : rest Next ≡ then_do behind_run (give Again)) (on-continue : rest Continued ≡ then_do behind_run (give Again))
     (on-break : rest Broke ≡ give (Over Next)) where
@@ -146,23 +146,23 @@ module _ (r : Fixed) (c : Call) (call : IsCall r c) (e : Exits) (f : Free) (k a 
     module _ (steps : ℕ) (more : x.steps ≤ steps) where
       -- behind the code of the body
       abbrev behind-body : Point
-      behind-body = record x { place = at-third; hand = hand + 500; owed = x.owed + nodes + 1 + n1; steps = steps + 1 }
+      behind-body = record x { place = at-third; hand = hand + 400; owed = x.owed + nodes + 1 + n1; steps = steps + 1 }
 
       again : (s : State) (m : Counted) → Related r c behind-body s m
           → Does r (D (steps + 1)) (then_do behind_run (give Again) r.budget s) m
       again s m at =
           let y : Point = record behind-body { place = at-third + 1 } in
-          let w : Point = past y third n2 (hand + 436 + least_hand) in
+          let w : Point = past y third n2 (hand + 336 + least_hand) in
           go-label r c call (D (steps + 1)) (then_do behind_run (give Again) r.budget s) behind-body s m (omega (arith, few)) at
           (label (f.label + 1)) (operation tail)
           (λ m' on. does-then r (λ _. Related r c w) (D (steps + 1)) (behind_run r.budget s) (λ _. give Again r.budget) m'
-          (last.does y (hand + 436) s m' third-in
-          (ready-behind r c f (behind (behind (reserve 3 f) k) a) total n2 hand (hand + 436) x y ready (omega arith) refl (omega arith)
+          (last.does y (hand + 336) s m' third-in
+          (ready-behind r c f (behind (behind (reserve 3 f) k) a) total n2 hand (hand + 336) x y ready (omega arith) refl (omega arith)
           (omega arith)) on)
-          (λ _ s m there. go-back r c call (D (steps + 1)) (Done Again s) w s m (omega (arith, few)) there (label f.label) x.place (hand + 400)
+          (λ _ s m there. go-back r c call (D (steps + 1)) (Done Again s) w s m (omega (arith, few)) there (label f.label) x.place (hand + 300)
           (operation jump-tail) (operation all) (omega arith) (omega arith)
           (λ m' back. does-here r (D (steps + 1)) Again s m'
-          (adjust r c (record w { place = standing_at c.ops f.label; hand = hand + 400; owed = 0 }) (record x { steps = steps + 1 }) s m'
+          (adjust r c (record w { place = standing_at c.ops f.label; hand = hand + 300; owed = 0 }) (record x { steps = steps + 1 }) s m'
           (label-place r c call (label f.label) x.place (operation all)) (let in_hand = ready.in_hand in omega (arith, in_hand)) (omega arith)
           (omega arith) back back.kept))))
 
@@ -178,7 +178,7 @@ module _ (r : Fixed) (c : Call) (call : IsCall r c) (e : Exits) (f : Free) (k a 
           ∙ label-place r c call (label (f.label + 1)) at-third (operation tail)) (omega arith) (omega arith) (omega arith) at.2 at.2.kept))
       body-ends Broke s m at =
           subst (λ g. Does r (D (steps + 1)) (g r.budget s) m) (sym on-break)
-          (away (steps + 1) (standing_at c.ops at.0) (hand + 500) (x.owed + nodes + 1 + n1)
+          (away (steps + 1) (standing_at c.ops at.0) (hand + 400) (x.owed + nodes + 1 + n1)
           (ap (λ l. standing_at c.ops l) (sym (exit-same (f.label + 2) at.0 at.1))
           ∙ label-place r c call (label (f.label + 2)) (at-jump + 1) (operation out-tail)) (omega arith) (omega arith) (omega (arith, more))
           s m at.2 (steps + 1))
@@ -196,13 +196,13 @@ module _ (r : Fixed) (c : Call) (call : IsCall r c) (e : Exits) (f : Free) (k a 
           does-then r (Ended r c (loop_exits f) behind-body) (D (steps + 1)) (entered run r.budget s) (λ flow. rest flow r.budget) m
           (does-then r (λ _. Related r c y) (Ended r c (loop_exits f) behind-body) (tick r.budget s) (λ _. run r.budget) m
           (tick-does r c (tested true) s m (least_hand + (hand + 500)) (omega arith) (omega (arith, few)) at)
-          (λ _ s m on. does-more r (Ended r c (loop_exits f) (past y a n1 (hand + 500 + 0))) (Ended r c (loop_exits f) behind-body)
+          (λ _ s m on. does-more r (Ended r c (loop_exits f) (past y a n1 (hand + 400))) (Ended r c (loop_exits f) behind-body)
           (run r.budget s) m
-          (body.does y (hand + 500) s m body-in
-          (ready-behind r c f (behind (reserve 3 f) k) total n1 hand (hand + 500) x y ready (omega arith) refl (omega arith)
+          (body.does y (hand + 400) s m body-in
+          (ready-behind r c f (behind (reserve 3 f) k) total n1 hand (step_hand + (hand + 400)) x y ready (omega arith) refl (omega arith)
           (omega arith)) on)
           (λ flow s m there. does-here r (Ended r c (loop_exits f) behind-body) flow s m
-          (ended-less r c (loop_exits f) (past y a n1 (hand + 500 + 0)) at-third (hand + 500)
+          (ended-less r c (loop_exits f) (past y a n1 (hand + 400)) at-third (hand + 400)
           (x.owed + nodes + 1 + n1) (steps + 1) refl (omega arith) (omega arith) (omega arith) flow s m there)))) body-ends
 
       chosen : (y : Bool) (s : State) (m : Counted) → Related r c (tested y) s m
@@ -232,7 +232,7 @@ module _ (r : Fixed) (c : Call) (call : IsCall r c) (e : Exits) (f : Free) (k a 
 -- ---- the body, and a test behind it
 
 module _ (r : Fixed) (c : Call) (call : IsCall r c) (e : Exits) (f : Free) (a k : Code) (t : Meant) (run : Run Flow) (value : Run Valued)
-    (n1 nodes : ℕ) (body : Goes r c (loop_exits f) (reserve 3 f) a itself run n1 0)
+    (n1 nodes : ℕ) (body : Begins r c (loop_exits f) (reserve 3 f) a run n1)
     (cond : Evaluates r c (behind (reserve 3 f) a) k IsValue t value nodes node_back) where
   abbrev test : Code
   test = test_code true f.label k
@@ -305,13 +305,13 @@ module _ (r : Fixed) (c : Call) (call : IsCall r c) (e : Exits) (f : Free) (a k 
 
     module _ (steps : ℕ) (more : x.steps ≤ steps) where
       abbrev body-behind : Point
-      body-behind = record x { place = at-label; hand = hand + 500; owed = x.owed + 1 + n1; steps = steps + 1 }
+      body-behind = record x { place = at-label; hand = hand + 400; owed = x.owed + 1 + n1; steps = steps + 1 }
 
       abbrev in-test : Point
       in-test = record body-behind { place = at-label + 1 }
 
       abbrev judged : Bool → Point
-      judged b = record (past in-test test nodes (hand + 436 + 312)) {
+      judged b = record (past in-test test nodes (hand + 336 + 312)) {
         place = if jumps true b then standing_at c.ops f.label else at-label + 1 + length test.ops;
         owed = 0;
       }
@@ -323,7 +323,7 @@ module _ (r : Fixed) (c : Call) (call : IsCall r c) (e : Exits) (f : Free) (a k 
           (adjust r c (judged true) (record x { steps = steps + 1 }) s m (label-place r c call (label f.label) x.place (operation full))
           (let in_hand = ready.in_hand in omega (arith, in_hand)) (omega arith) (omega arith) at at.kept)
       turned false s m at =
-          off (steps + 1) at-out (hand + 436 + 312) 0 refl (omega arith) (omega arith) (omega (arith, more)) s m at (steps + 1)
+          off (steps + 1) at-out (hand + 336 + 312) 0 refl (omega arith) (omega arith) (omega (arith, more)) s m at (steps + 1)
 
       judge : (s : State) (m : Counted) → Related r c body-behind s m
           → Does r (F (steps + 1)) (if_true (truth value) (give Again) Next r.budget s) m
@@ -332,8 +332,8 @@ module _ (r : Fixed) (c : Call) (call : IsCall r c) (e : Exits) (f : Free) (a k 
           (label (f.label + 1)) (operation label-tail)
           (λ m' on. does-then r (λ b. Related r c (judged b)) (F (steps + 1)) (truth value r.budget s)
           (λ b. (if b then give Again else give (Over Next)) r.budget) m'
-          (test-back r c call (behind (reserve 3 f) a) k t true f.label value nodes 312 cond in-test (hand + 436) s m' test-place
-          (ready-behind r c f (behind (reserve 3 f) a) steps-of nodes hand (hand + 436) x in-test ready (omega arith) refl (omega arith)
+          (test-back r c call (behind (reserve 3 f) a) k t true f.label value nodes 312 cond in-test (hand + 336) s m' test-place
+          (ready-behind r c f (behind (reserve 3 f) a) steps-of nodes hand (hand + 336) x in-test ready (omega arith) refl (omega arith)
           (omega arith)) x.place (operation full) (omega arith) on) turned)
 
       body-done : (flow : Flow) (s : State) (m : Counted) → Ended r c (loop_exits f) body-behind flow s m
@@ -344,7 +344,7 @@ module _ (r : Fixed) (c : Call) (call : IsCall r c) (e : Exits) (f : Free) (a k 
           (ap (λ l. standing_at c.ops l) (sym (exit-same (f.label + 1) at.0 at.1))
           ∙ label-place r c call (label (f.label + 1)) at-label (operation label-tail)) (omega arith) (omega arith) (omega arith) at.2 at.2.kept)
       body-done Broke s m at =
-          off (steps + 1) (standing_at c.ops at.0) (hand + 500) (x.owed + 1 + n1)
+          off (steps + 1) (standing_at c.ops at.0) (hand + 400) (x.owed + 1 + n1)
           (ap (λ l. standing_at c.ops l) (sym (exit-same (f.label + 2) at.0 at.1))
           ∙ label-place r c call (label (f.label + 2)) at-out (operation last-label)) (omega arith) (omega arith) (omega (arith, more))
           s m at.2 (steps + 1)
@@ -360,12 +360,12 @@ module _ (r : Fixed) (c : Call) (call : IsCall r c) (e : Exits) (f : Free) (a k 
           (λ flow. behind_body (if_true (truth value) (give Again) Next) flow r.budget) m'
           (does-then r (λ _. Related r c v) (Ended r c (loop_exits f) body-behind) (tick r.budget s) (λ _. run r.budget) m'
           (tick-does r c w s m' (least_hand + (hand + 500)) (let in_hand = ready.in_hand in omega (arith, in_hand)) (omega (arith, bound)) on)
-          (λ _ s m there. does-more r (Ended r c (loop_exits f) (past v a n1 (hand + 500 + 0))) (Ended r c (loop_exits f) body-behind)
+          (λ _ s m there. does-more r (Ended r c (loop_exits f) (past v a n1 (hand + 400))) (Ended r c (loop_exits f) body-behind)
           (run r.budget s) m
-          (body.does v (hand + 500) s m body-place
-          (ready-behind r c f (reserve 3 f) steps-of n1 hand (hand + 500) x v ready (omega arith) refl (omega arith) (omega arith)) there)
+          (body.does v (hand + 400) s m body-place
+          (ready-behind r c f (reserve 3 f) steps-of n1 hand (step_hand + (hand + 400)) x v ready (omega arith) refl (omega arith) (omega arith)) there)
           (λ flow s m gone. does-here r (Ended r c (loop_exits f) body-behind) flow s m
-          (ended-less r c (loop_exits f) (past v a n1 (hand + 500 + 0)) at-label (hand + 500)
+          (ended-less r c (loop_exits f) (past v a n1 (hand + 400)) at-label (hand + 400)
           (x.owed + 1 + n1) (steps + 1) refl (omega arith) (omega arith) (omega arith) flow s m gone)))) body-done)
 
   pub do-of : Goes r c e f whole itself (do_loop (entered run) (truth value)) steps-of 0
