@@ -26,7 +26,7 @@ use Rattle.lowerflow.specs.Codes.{region_code}
 use Rattle.lowerflow.proofs.Walk.{Part, Piece, One, Rest, rest-of, piece, behind-piece, operation, behind-op, at-end}
 use Rattle.lowerflow.proofs.Ways.{does-here, does-then, ready-behind}
 
-event_of : Mark → Event
+abbrev event_of : Mark → Event
 event_of (mark.Enter n) = event.Enter n
 event_of (mark.Leave n) = event.Leave n
 

@@ -4,7 +4,7 @@ use Rattle.std.specs.Prelude.{sum_by}
 use Rattle.prunum.specs.declared.width.Width.TheVariants.{B4}
 use Rattle.csyn.specs.declared.operator.LogicalOperator.TheVariants.{And, Or}
 use Rattle.csyn.specs.declared.specifiers.Sign.TheVariants.{Signed}
-use Rattle.midcode.specs.Cost.{size, charge}
+use Rattle.midcode.specs.Cost.{size}
 use Rattle.midcode.specs.declared.op.OpKind.TheVariants as op
 use Rattle.cprogram.specs.declared.value.ValueKind as value
 use Rattle.cprogram.specs.declared.statement.StmtKind as stmt
@@ -15,16 +15,13 @@ use Rattle.lowerflow.specs.Codes.{label, no_code, test_code, logical_code, condi
 use Rattle.lowerflow.specs.Codes.{region_code}
 use Rattle.lowerflow.specs.Code.{value_code, stmt_code}
 
-free : Free
+abbrev free : Free
 free = record { register = 1; label = 0 }
 
 -- ---- words, beside those of the parts
 
 abbrev words : Code → ℕ
 words code = sum_by size code.ops
-
-abbrev cycles : Code → ℕ
-cycles code = sum_by charge code.ops
 
 and-light : nat_le (words (logical_code And free no_code no_code)) 24 ≡ true
 and-light = refl
