@@ -71,7 +71,7 @@ module _ (r : Fixed) (c : Call) where
       (found.0, d, ap number_in is ∙ found.1, found.2, held))
 
   -- a number that is of one of the two types is of the other
-  plus-of : (f : Free) (code : Code) (s t : Sign) (run : Run ℕ) (nodes back : ℕ) → Evaluates r c f code IsNumber (word s) run nodes back
+  pub plus-of : (f : Free) (code : Code) (s t : Sign) (run : Run ℕ) (nodes back : ℕ) → Evaluates r c f code IsNumber (word s) run nodes back
       → Evaluates r c f code IsValue (word t) (then_with run (λ n. number_value (unary Plus n))) nodes back
   plus-of f code s t run nodes back first =
       next-same r c {Is = IsNumber} {Is' = IsValue} f code (word s) (word t) run nodes back (λ n. number_value (unary Plus n)) first refl

@@ -1,0 +1,12 @@
+pub mod Labels
+pub mod Walk
+pub mod Ways
+pub mod Testing
+pub mod Logic
+pub mod Chosen
+pub mod Turning
+pub mod Regions
+pub mod EachKind
+pub mod Values
+pub mod EachStatement
+pub mod Samples

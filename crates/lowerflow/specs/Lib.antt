@@ -1,0 +1,7 @@
+pub mod Claims
+pub mod Code
+pub mod Codes
+pub mod Goes
+pub mod Laws
+pub mod Nodes
+pub mod Typed
