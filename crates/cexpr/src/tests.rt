@@ -1,6 +1,8 @@
 use super::*;
 use cfault::{Asked, Faults};
-use cprogram::{AccessKind, Direction, LocalId, Register, StepValue, UnaryOperator};
+use cprogram::{AccessKind, Direction, LocalId, Offset, Register, StepValue, UnaryOperator};
+use cscope::NameId;
+use csize::{Member, Structure};
 use csyn::{BinaryOperator, Cause, ComparisonOperator, LogicalOperator, Mark, Sign, Span};
 use ctypes::{Base, BaseKind, CType, Qualifiers, Step, StructId};
 use std::alloc::{AllocError, Global};
@@ -29,6 +31,7 @@ enum Part {
     Pointer,
     ConstPointer,
     VolatilePointer,
+    StructPointer,
     Row,
     Struct,
     Void,
@@ -38,7 +41,7 @@ enum Part {
 fn kind_of(part: Part) -> BaseKind {
     match part {
         Part::Short => BaseKind::Short,
-        Part::Struct => BaseKind::Struct(StructId(0)),
+        Part::Struct | Part::StructPointer => BaseKind::Struct(StructId(0)),
         Part::Void => BaseKind::Void,
         _ => BaseKind::Int,
     }
@@ -54,7 +57,7 @@ fn qualifiers_of(part: Part) -> Qualifiers {
 
 fn type_of(alloc: Global, part: Part) -> Result<CType, AllocError> {
     let steps = match part {
-        Part::Pointer | Part::ConstPointer | Part::VolatilePointer => {
+        Part::Pointer | Part::ConstPointer | Part::VolatilePointer | Part::StructPointer => {
             Vec::from_slice(alloc, &[POINTER])?
         }
         Part::Row => Vec::from_slice(alloc, &[Step::Array(3)])?,
@@ -309,6 +312,7 @@ enum One {
     Increment,
     Size,
     In,
+    InFar,
     Out,
 }
 
@@ -352,13 +356,17 @@ fn judge_item(
             let _ = expression_size(alloc, &[], mark(9), a, faults);
         }
         _ => {
-            let ten = value(alloc, Part::Number(10))?;
+            let device = match one {
+                One::InFar => 13,
+                _ => 10,
+            };
+            let device = value(alloc, Part::Number(device))?;
             let zero = value(alloc, Part::Number(0))?;
-            let register = scratchpad_register(&ten, &zero, &zero);
-            if let One::In = one {
-                let _ = scratchpad_in(alloc, mark(9), register, a, faults);
-            } else {
+            let register = scratchpad_register(&device, &zero, &zero);
+            if let One::Out = one {
                 let _ = scratchpad_out(alloc, mark(9), register, a, faults);
+            } else {
+                let _ = scratchpad_in(alloc, mark(9), register, a, faults);
             }
         }
     }
@@ -368,7 +376,7 @@ fn judge_item(
 fn broken_by_one(alloc: Global, one: One, a: Part) -> Result<Option<Cause>, AllocError> {
     let mut faults = Faults::new();
     match one {
-        One::Address | One::Increment | One::Size | One::In | One::Out => {
+        One::Address | One::Increment | One::Size | One::In | One::InFar | One::Out => {
             judge_item(alloc, one, item(alloc, a)?, &mut faults)?;
         }
         _ => judge_value(alloc, one, value(alloc, a)?, &mut faults),
@@ -398,6 +406,7 @@ fn one_operand_fits(rt: HostRuntime) -> Result<(), Fail> {
         (One::In, Part::Short, Some(Cause::S6)),
         (One::In, Part::Register, Some(Cause::S6)),
         (One::In, Part::Const, Some(Cause::S5)),
+        (One::InFar, Part::Int, Some(Cause::S16)),
         (One::Out, Part::Const, None),
         (One::Out, Part::Pointer, Some(Cause::S6)),
     ];
@@ -495,6 +504,70 @@ fn broken_by_use(alloc: Global, part: Part) -> Result<Option<Cause>, AllocError>
 fn structs_have_no_value(rt: HostRuntime) -> Result<(), Fail> {
     assert_eq!(rt; broken_by_use(rt.alloc(), Part::Row)?, None);
     assert_eq!(rt; broken_by_use(rt.alloc(), Part::Struct)?, Some(Cause::S20));
+    Ok(())
+}
+
+// `a.b` and `p->b`, of a struct with one member, whose name has the number 1.
+fn broken_by_member(
+    alloc: Global,
+    a: Part,
+    is_arrow: bool,
+    name: u32,
+) -> Result<Option<Cause>, AllocError> {
+    let mut faults = Faults::new();
+    let mut members = Vec::new(alloc);
+    let offset = Offset {
+        leaves: 0,
+        bytes: 0,
+    };
+    members.push(Member {
+        name: NameId(1),
+        ctype: type_of(alloc, Part::Int)?,
+        offset,
+    })?;
+    let structures = [Structure {
+        members,
+        element: None,
+    }];
+    if is_arrow {
+        let pointer = value(alloc, a)?;
+        let _ = arrow(
+            alloc,
+            &structures,
+            mark(9),
+            NameId(name),
+            pointer,
+            &mut faults,
+        )?;
+    } else {
+        let whole = item(alloc, a)?;
+        let _ = member(
+            alloc,
+            &structures,
+            mark(9),
+            NameId(name),
+            whole,
+            &mut faults,
+        )?;
+    }
+    Ok(cause(&faults))
+}
+
+#[test]
+fn members_are_found(rt: HostRuntime) -> Result<(), Fail> {
+    let table = [
+        (Part::Struct, false, 1, None),
+        (Part::Struct, false, 2, Some(Cause::S1)),
+        (Part::Int, false, 1, Some(Cause::S4)),
+        (Part::Void, false, 1, Some(Cause::S4)),
+        (Part::StructPointer, true, 1, None),
+        (Part::StructPointer, true, 2, Some(Cause::S1)),
+        (Part::Struct, true, 1, Some(Cause::S4)),
+        (Part::Pointer, true, 1, Some(Cause::S4)),
+    ];
+    for (a, is_arrow, name, wanted) in table {
+        assert_eq!(rt; broken_by_member(rt.alloc(), a, is_arrow, name)?, wanted);
+    }
     Ok(())
 }
 

@@ -1,4 +1,4 @@
-use Rattle.std.proofs.Common.{◌≡◌, ◌∙◌, Bool, ap}
+use Rattle.std.proofs.Common.{◌∙◌, Bool, ap}
 use Rattle.ctypes.specs.Convert.{implied}
 use Rattle.cexpr.specs.Assign.{implied_from}
 use Rattle.cexpr.proofs.assignment.implied_from.Goals as goal

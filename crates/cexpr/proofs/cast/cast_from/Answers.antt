@@ -1,4 +1,4 @@
-use Rattle.std.proofs.Common.{◌≡◌, ◌∙◌, Bool, ap}
+use Rattle.std.proofs.Common.{◌∙◌, Bool, ap}
 use Rattle.ctypes.specs.Convert.{cast}
 use Rattle.cexpr.specs.Cast.{cast_from}
 use Rattle.cexpr.proofs.cast.cast_from.Goals as goal

@@ -1,4 +1,4 @@
-use Rattle.std.proofs.Common.{◌≡◌, refl, ap, sym, ◌∙◌}
+use Rattle.std.proofs.Common.{refl, ap, sym, ◌∙◌}
 use Rattle.cexpr.specs.Intrinsic.{delay_of}
 use Rattle.cexpr.proofs.Delays.{delay_of_is}
 use Rattle.cexpr.proofs.intrinsics.delay_of.Goals as goal

@@ -1,4 +1,4 @@
-use Rattle.std.proofs.Common.{◌≡◌, ◌∙◌, Option, ap}
+use Rattle.std.proofs.Common.{◌∙◌, Option, ap}
 use Rattle.cprogram.specs.declared.scalar.Conversion.{Conversion}
 use Rattle.cexpr.specs.Assign.{implied_from}
 use Rattle.cexpr.specs.Pair.{unified, unify}

@@ -1,4 +1,4 @@
-use Rattle.std.proofs.Common.{◌≡◌, refl}
+use Rattle.std.proofs.Common.{refl}
 use Rattle.cexpr.proofs.Scratchpads.{scratchpad_at_is}
 use Rattle.cexpr.proofs.scratchpad.scratchpad_at.Goals as goal
 
