@@ -1,7 +1,7 @@
 -- What is written is read again: fields, and what an executable tells of itself.
-use Rattle.std.proofs.Common.{◌≡◌, ℕ, zero, suc, ◌+◌, ◌-◌, ◌*◌, ◌/◌, ◌%◌, ◌^◌, ◌<◌, ◌≤◌, ◌==◌, ◌&&◌, min, max, Bool, true, false, cond}
-use Rattle.std.proofs.Common.{List, [], ◌∷◌, ◌++◌, length, take, drop, replicate, Option, Some, None, Result, Ok, Err, refl, sym, ap}
-use Rattle.std.proofs.Common.{◌∙◌, append_assoc, arith, nat_lt, nat_le}
+use Rattle.std.proofs.Common.{◌≡◌, ℕ, ◌+◌, ◌-◌, ◌/◌, ◌%◌, ◌^◌, ◌<◌, ◌≤◌, ◌==◌, Bool, true, false, cond}
+use Rattle.std.proofs.Common.{List, [], ◌∷◌, ◌++◌, length, Result, Ok, Err, refl, ap}
+use Rattle.std.proofs.Common.{◌∙◌, append_assoc, arith, nat_lt}
 use Rattle.std.specs.Int.{Width, w8, w16, w32, byte_len, from_le_bytes, to_le_bytes}
 use Rattle.std.specs.List.{AllByRecursion}
 use Rattle.std.proofs.lemmas.Bool.{le-ltb, le-leb, eq-eqb, and_from}
@@ -17,7 +17,7 @@ use Rattle.pruelf.specs.declared.span.Span.{Span}
 use Rattle.std.specs.Str.{bytes_eq}
 use Rattle.pruelf.specs.Fields.{◌>>=◌, allows, bytes_in, fixed_in, judged_in, number_in, only, within_in, wrong}
 use Rattle.pruelf.specs.Front.{begun, code_in, header_in, identification, identified_in, loaded_in, named_in, noted_in, section_in}
-use Rattle.pruelf.specs.Front.{sections_in, segments_in, with_names, with_notes, with_symbols, with_table}
+use Rattle.pruelf.specs.Front.{sections_in, segments_in, with_notes, with_symbols, with_table}
 use Rattle.pruelf.specs.Layout as layout
 use Rattle.elfwrite.specs.Written.{header_bytes, numbers, section_bytes, sections, sections_bytes, segments_bytes}
 

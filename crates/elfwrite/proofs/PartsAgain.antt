@@ -1,23 +1,18 @@
 -- What is written is read again: the words, the data, the notes and the names.
-use Rattle.std.proofs.Common.{◌≡◌, ℕ, zero, suc, ◌+◌, ◌-◌, ◌*◌, ◌/◌, ◌%◌, ◌^◌, ◌<◌, ◌≤◌, ◌==◌, ◌&&◌, ◌||◌, Bool, true, false, IsTrue}
-use Rattle.std.proofs.Common.{cond, List, [], ◌∷◌, ◌++◌, length, get_or, take, drop, replicate, Option, Some, None, Result, Ok, Err}
-use Rattle.std.proofs.Common.{refl, sym, ap, ◌∙◌, append_assoc, arith, nat_lt, nat_le}
-use Rattle.std.specs.Prelude.{IsSome, IsSomeAnd, is_some, option_and_then, slice_get, slice_index}
+use Rattle.std.proofs.Common.{◌≡◌, ℕ, suc, ◌^◌, ◌<◌, Bool, true}
+use Rattle.std.proofs.Common.{cond, List, [], ◌∷◌, ◌++◌, length, Option, Some, None, Result, Ok, Err}
+use Rattle.std.proofs.Common.{refl, sym, ap, ◌∙◌, append_assoc, arith}
 use Rattle.std.specs.Int.{w8, w16, w32, to_le_bytes}
-use Rattle.std.specs.List.{AllByRecursion, flat_map, list_any}
-use Rattle.std.proofs.lemmas.Bool.{and_from, and_parts, eq-eqb, le-leb, leb-true, ltb-true, eqb-true}
-use Rattle.std.proofs.lemmas.Option.{slice_get-get_or}
-use Rattle.isa.specs.declared.inst.Inst.{Inst}
+use Rattle.std.specs.List.{flat_map}
 use Rattle.isa.specs.declared.note.Note.{Note as Mark}
 use Rattle.isa.specs.declared.note.NoteKind.{NoteKind}
 use Rattle.isa.specs.declared.note.NoteKind.TheVariants.{Enter, DelayIn, DelayOut, Leave, Own, Return, Turns}
-use Rattle.isa.specs.Decoded.{decoded}
-use Rattle.isa.specs.Note.{AreOrdered, Stands, is_before, kind_at, kind_number, may_stand, value_fits}
+use Rattle.isa.specs.Note.{kind_at, kind_number, value_fits}
 use Rattle.pruelf.specs.declared.fault.LoadCause.TheVariants as causes
 use Rattle.pruelf.specs.declared.fault.LoadFault.{LoadFault}
 use Rattle.pruelf.specs.Fields.{◌>>=◌, fixed_in, judged_in, many_in, number_in, wrong}
-use Rattle.pruelf.specs.Parts.{bears, chosen, instruction, is_word, kind_before, kind_in, kinds, may_be_word, may_follow, note_in}
-use Rattle.pruelf.specs.Parts.{word_before, word_in}
+use Rattle.pruelf.specs.Parts.{chosen, is_word, kind_in, may_be_word, may_follow, note_in}
+use Rattle.pruelf.specs.Parts.{word_in}
 use Rattle.elfwrite.specs.Written.{note_bytes, numbers}
 use Rattle.elfwrite.proofs.Again.{fixed_again, judged_again, number_again, then_ok, wide8, wide16, wide32}
 use Rattle.pruelf.proofs.Loop.{Reader}

@@ -1,23 +1,22 @@
 -- What is written is read again: the resource table, all parts, and the whole executable.
-use Rattle.std.proofs.Common.{◌≡◌, ℕ, zero, suc, ◌+◌, ◌-◌, ◌*◌, ◌/◌, ◌%◌, ◌^◌, ◌<◌, ◌≤◌, ◌==◌, Bool, true, false, cond, List, [], ◌∷◌}
+use Rattle.std.proofs.Common.{◌≡◌, ℕ, zero, suc, ◌+◌, ◌-◌, ◌*◌, ◌/◌, ◌^◌, ◌<◌, ◌≤◌, ◌==◌, Bool, true, false, cond, List, [], ◌∷◌}
 use Rattle.std.proofs.Common.{◌++◌, length, drop, replicate, Option, Some, None, Result, Ok, Err, refl, sym, ap, subst, ◌∙◌}
 use Rattle.std.proofs.Common.{append_assoc, arith, nat_lt}
 use Rattle.std.proofs.lemmas.List.Folds.{list_any_at}
-use Rattle.std.specs.Prelude.{◌&&◌, ◌||◌, nat_le, not, All, IsSome, IsSomeAnd, IsTrue, is_some, option_and_then, slice_get, slice_index}
+use Rattle.std.specs.Prelude.{◌&&◌, ◌||◌, nat_le, not, All, IsSome, IsSomeAnd, IsTrue, option_and_then, slice_get, slice_index}
 use Rattle.std.specs.Int.{w8, w16, w32, byte_len, to_le_bytes}
 use Rattle.std.specs.List.{AllByRecursion, flat_map, list_all, list_any}
-use Rattle.std.proofs.lemmas.List.{append-nil, drop_at, length-append, length-replicate}
+use Rattle.std.proofs.lemmas.List.{drop_at, length-append, length-replicate}
 use Rattle.isa.specs.declared.note.Note.{Note as Mark}
 use Rattle.isa.specs.declared.inst.Inst.{Inst}
 use Rattle.isa.specs.declared.note.NoteKind.{NoteKind}
 use Rattle.isa.specs.declared.note.NoteKind.TheVariants.{Enter, DelayIn, DelayOut, Leave, Own, Return, Turns}
-use Rattle.isa.specs.Note.{AreOrdered, Stands, is_before, kind_number, may_stand, value_fits}
+use Rattle.isa.specs.Note.{AreOrdered, Stands, is_before, kind_number, may_stand}
 use Rattle.isa.specs.Decoded.{decoded}
 use Rattle.isa.specs.Image.{Contents, IsImage}
 use Rattle.restable.specs.declared.trace.Trace.{Trace}
-use Rattle.restable.specs.Tables.{IsTrace, entry, name_field, offsets, table, words}
+use Rattle.restable.specs.Tables.{IsTrace, entry, offsets, table, words}
 use Rattle.restable.specs.Reading.{table_in}
-use Rattle.restable.specs.Names.{can_name}
 use Rattle.restable.proofs.TableLaws.{table_again}
 use Rattle.std.proofs.lemmas.Bool.{and_from, and_parts, eqb-true, le-leb, leb-true, lt-ltb, ltb-true}
 use Rattle.std.proofs.lemmas.List.Elements.{All-head, All-tail}
@@ -28,14 +27,14 @@ use Rattle.pruelf.specs.declared.symbol.Sym.{Sym}
 use Rattle.pruelf.specs.Executable.{Held, Loaded, executable_in, image_in, memory_in, pad_in, parts_in, symbols_in}
 use Rattle.pruelf.specs.Fields.{◌>>=◌, bytes_in, fixed_in, many_in, wrong}
 use Rattle.pruelf.specs.Front.{begun, header_in, sections_in, segments_in}
-use Rattle.pruelf.specs.Layout.{padding, section_names, section_names_offset}
-use Rattle.pruelf.specs.Parts.{bears, entries_in, kind_before, kinds, located, may_be_word, may_follow, names_in, note_in, resources_in}
+use Rattle.pruelf.specs.Layout.{padding, section_names}
+use Rattle.pruelf.specs.Parts.{bears, entries_in, kind_before, kinds, located, may_follow, names_in, note_in, resources_in}
 use Rattle.pruelf.specs.Parts.{word_before, word_in}
 use Rattle.elfwrite.specs.Ranged.{IsRanged}
-use Rattle.elfwrite.specs.Written.{Besides, CanBeWritten, IsExtra, IsSymbol, executable, filled, front_bytes, header_bytes, names_bytes}
+use Rattle.elfwrite.specs.Written.{Besides, CanBeWritten, IsExtra, executable, filled, front_bytes, names_bytes}
 use Rattle.elfwrite.specs.Written.{note_bytes, numbers, parts_bytes, plan_of, section_names_bytes, sections, sections_bytes}
 use Rattle.elfwrite.specs.Written.{segments_bytes, symbol_bytes, symbols_bytes}
-use Rattle.elfwrite.proofs.Again.{IsPlanned, bytes_again, filled_up, fixed_again, header_again, headers_again, loads_of}
+use Rattle.elfwrite.proofs.Again.{IsPlanned, bytes_again, fixed_again, header_again, headers_again, loads_of}
 use Rattle.elfwrite.proofs.Again.{sections_allowed, segments_again, then_ok, wide8, wide32}
 use Rattle.elfwrite.proofs.PartsAgain.{Chain, IsMark, IsWord, notes_again, words_again}
 use Rattle.elfwrite.proofs.Few.{kind_least}

@@ -1,7 +1,6 @@
 -- That the parts of an image are numbers of their types.
-use Rattle.std.specs.Prelude.{ℕ, ◌^◌, ◌<◌}
+use Rattle.std.specs.Prelude.{◌^◌, ◌<◌}
 use Rattle.std.specs.List.{AllByRecursion}
-use Rattle.isa.specs.declared.note.Note.{Note}
 use Rattle.isa.specs.Image.{Contents}
 
 -- each word, and the value of each note, is a number of four bytes

@@ -2,7 +2,7 @@
 use Rattle.std.specs.Prelude.{◌≡◌, ℕ, ◌+◌, ◌-◌, ◌*◌, ◌^◌, ◌<◌, if◌then◌else◌, Bool, true, false, IsTrue, List, [], ◌∷◌, ◌++◌, length}
 use Rattle.std.specs.Prelude.{replicate}
 use Rattle.std.specs.List.{flat_map, AllByRecursion}
-use Rattle.std.specs.Int.{Width, w8, w16, w32, to_le_bytes}
+use Rattle.std.specs.Int.{Width, w16, w32, to_le_bytes}
 use Rattle.isa.specs.declared.note.Note.{Note}
 use Rattle.isa.specs.Image.{Contents, IsImage}
 use Rattle.isa.specs.Note.{kind_number}

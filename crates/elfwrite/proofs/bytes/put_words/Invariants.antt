@@ -1,5 +1,5 @@
 use Rattle.std.proofs.Common.{◌≡◌, ◌++◌, take}
-use Rattle.std.specs.Int.{w16, w32}
+use Rattle.std.specs.Int.{w32}
 use Rattle.elfwrite.specs.Written.{numbers}
 use Rattle.elfwrite.proofs.bytes.put_words.Given as goal
 

@@ -1,4 +1,4 @@
-use Rattle.std.proofs.Common.{◌+◌, ◌++◌, arith}
+use Rattle.std.proofs.Common.{◌++◌, arith}
 use Rattle.elfwrite.specs.Written.{symbols_bytes}
 use Rattle.elfwrite.proofs.WrittenSymbols.{names_left, symbol_written, symbols_written}
 use Rattle.elfwrite.proofs.symbols.put_symbols.Goals as goal
