@@ -1,1 +1,5 @@
-pub mod Texts
+pub mod Causes
+pub mod Held
+pub mod Items
+pub mod Labels
+pub mod Notes

@@ -1,220 +1,302 @@
-//! The first bad line.
+//! Why a line of a text is bad.
 
-ghost use Rattle.std.specs.Prelude.{◌≤◌, length};
+ghost use Rattle.std.specs.Prelude.{◌≡◌, ℕ, List, Some, None};
+ghost use Rattle.asmline.specs.Said.{saying_of, said_by};
+ghost use Rattle.asmtext.specs.Held.{told, all_told, held};
+ghost use Rattle.asmtext.specs.Notes.{kinds_said, kinds_after, has_kind, is_access, is_jump, is_branch, may_rest, may_aim, is_back};
+ghost use Rattle.asmtext.specs.Notes.{may_stand_on, may_stand_at, may_stand};
+ghost use Rattle.asmtext.specs.Causes.{is_second_note, is_out_of_range, is_second_place, is_loop, misses, aims_badly};
+ghost use Rattle.asmtext.specs.Causes.{has_bad_label, is_lost_note, cause_of, AreGood, IsFirstBad};
+ghost use Rattle.std.specs.Prelude.{OnOk, IfOk, MatchOption, ◌+◌, ◌<◌, ◌≤◌, length, drop};
+
+ghost use Rattle.asmword.specs.Words.{is_below};
+ghost use Rattle.asmtext.specs.Labels.{first_place};
 
 use crate::cause::AsmCause;
-use asmline::{Line, Statement, read_line};
+use crate::places::Places;
+use asmline::{Line, Statement};
 use asmword::Mnemonic;
-use indexmap::IndexMap;
 use isa::NoteKind;
 use prunum::Memory;
 use std::alloc::Global;
-use textline::Lines;
 
-/// The labels by their names, in the order in which the text first names them, with the first line at which each stands.
-#[derive(Drop)]
-pub struct Labels<'a> {
-    lines: IndexMap<&'a [u8], Option<usize>>,
-}
+// ---- Range
 
-impl<'a> Labels<'a> {
-    /// The labels of these lines, of which those without a form name none.
-    pub fn of(alloc: Global, lines: &[Option<Line<'a>>]) -> Result<Labels<'a>, Memory> {
-        let mut labels = Labels {
-            lines: IndexMap::new(alloc),
-        };
-        for (number, line) in lines.iter().enumerate() {
-            if let Some(line) = line {
-                labels.take(number, line)?;
-            }
-        }
-        Ok(labels)
-    }
-
-    fn take(&mut self, number: usize, line: &Line<'a>) -> Result<(), Memory> {
-        if let Some(name) = line.label
-            && self.line_of(name).is_none()
-        {
-            self.lines.insert(name, Some(number))?;
-        }
-        if let Statement::Aimed { name, .. } = line.statement
-            && self.lines.get(name).is_none()
-        {
-            self.lines.insert(name, None)?;
-        }
-        Ok(())
-    }
-
-    /// The first line at which the label stands.
-    pub fn line_of(&self, name: &[u8]) -> Option<usize> {
-        self.lines.get(name).copied().flatten()
-    }
-
-    /// Its number, from 1, by its first appearance.
-    pub fn number_of(&self, name: &[u8]) -> u32 {
-        match self.lines.get_index_of(name) {
-            Some(index) => named(index),
-            None => 0,
-        }
-    }
-}
-
-/// A number from 1 for one from 0. A text of fewer than 2^32 bytes has none that is larger.
-pub fn named(index: usize) -> u32 {
-    index.saturating_add(1).min(u32::MAX as usize) as u32
-}
-
-/// The cause for which a line is bad, by itself or among the others.
-pub fn cause_of(labels: &Labels<'_>, lines: &[Option<Line<'_>>], number: usize) -> Option<AsmCause>
-    requires { number ≤ length lines.now }
+fn has_kind(kind: NoteKind, kinds: &[NoteKind]) -> bool
+    ensures { result ≡ has_kind kind kinds.now }
 {
-    let (before, rest) = lines.split_at(number);
-    let Some((Some(line), behind)) = rest.split_first() else {
-        return Some(AsmCause::Form);
-    };
-    if !line.fits() || is_second_note(before, line) {
+    kinds.iter().any(|k| k.number() == kind.number())
+}
+
+fn is_second_note(kinds: &[NoteKind], statement: &Statement<'_>) -> bool
+    ensures { result ≡ is_second_note kinds.now (saying_of statement.now) }
+{
+    match *statement {
+        Statement::Note { kind, .. } => has_kind(kind, kinds),
+        Statement::Nothing | Statement::Whole(_) | Statement::Aimed { .. } => false,
+    }
+}
+
+fn is_out_of_range(kinds: &[NoteKind], line: &Line<'_>) -> bool
+    ensures { result ≡ is_out_of_range kinds.now (said_by line.now).saying }
+{
+    !line.fits() || is_second_note(kinds, &line.statement)
+}
+
+// ---- Label
+
+fn is_below(number: usize, place: Option<usize>) -> bool
+    ensures { result ≡ is_below number place }
+{
+    match place {
+        Some(place) => place < number,
+        None => false,
+    }
+}
+
+fn is_second_place(places: &Places<'_>, number: usize, line: &Line<'_>) -> bool
+    ensures { result ≡ is_second_place (held places.now) number (said_by line.now).label }
+{
+    match line.label {
+        Some(name) => is_below(number, places.get(name)),
+        None => false,
+    }
+}
+
+fn is_loop(mnemonic: Mnemonic) -> bool
+    ensures { result ≡ is_loop mnemonic }
+{
+    matches!(mnemonic, Mnemonic::Loop)
+}
+
+fn misses(is_loop: bool, number: usize, place: Option<usize>) -> bool
+    ensures { result ≡ misses is_loop number place }
+{
+    match place {
+        Some(place) => is_loop && place <= number,
+        None => true,
+    }
+}
+
+fn aims_badly(places: &Places<'_>, number: usize, statement: &Statement<'_>) -> bool
+    ensures { result ≡ aims_badly (held places.now) number (saying_of statement.now) }
+{
+    match *statement {
+        Statement::Aimed { form, name } => {
+            misses(is_loop(form.mnemonic), number, places.get(name))
+        }
+        Statement::Nothing | Statement::Note { .. } | Statement::Whole(_) => false,
+    }
+}
+
+fn has_bad_label(places: &Places<'_>, number: usize, line: &Line<'_>) -> bool
+    ensures { result ≡ has_bad_label (held places.now) number (said_by line.now) }
+{
+    is_second_place(places, number, line) || aims_badly(places, number, &line.statement)
+}
+
+// ---- Note
+
+fn may_rest(kind: NoteKind, mnemonic: Mnemonic) -> bool
+    ensures { result ≡ may_rest kind mnemonic }
+{
+    match kind {
+        NoteKind::Own => is_access(mnemonic),
+        NoteKind::Return => is_jump(mnemonic),
+        NoteKind::Turns => false,
+        NoteKind::Enter | NoteKind::DelayIn | NoteKind::DelayOut | NoteKind::Leave => true,
+    }
+}
+
+fn is_access(mnemonic: Mnemonic) -> bool
+    ensures { result ≡ is_access mnemonic }
+{
+    matches!(
+        mnemonic,
+        Mnemonic::Lbbo | Mnemonic::Lbco | Mnemonic::Sbbo | Mnemonic::Sbco
+    )
+}
+
+fn is_jump(mnemonic: Mnemonic) -> bool
+    ensures { result ≡ is_jump mnemonic }
+{
+    matches!(mnemonic, Mnemonic::Jmp)
+}
+
+fn is_branch(mnemonic: Mnemonic) -> bool
+    ensures { result ≡ is_branch mnemonic }
+{
+    matches!(
+        mnemonic,
+        Mnemonic::Branch(_) | Mnemonic::Qba | Mnemonic::Jmp
+    )
+}
+
+fn may_aim(kind: NoteKind, mnemonic: Mnemonic, back: bool) -> bool
+    ensures { result ≡ may_aim kind mnemonic back }
+{
+    match kind {
+        NoteKind::Own | NoteKind::Return => false,
+        NoteKind::Turns => is_branch(mnemonic) && back,
+        NoteKind::Enter | NoteKind::DelayIn | NoteKind::DelayOut | NoteKind::Leave => true,
+    }
+}
+
+/// Whether a label at this place isn't behind the line. One that stands nowhere is its word's own fault.
+fn is_back(number: usize, place: Option<usize>) -> bool
+    ensures { result ≡ is_back number place }
+{
+    match place {
+        Some(place) => place <= number,
+        None => true,
+    }
+}
+
+fn may_stand_on(
+    places: &Places<'_>,
+    kind: NoteKind,
+    number: usize,
+    statement: &Statement<'_>,
+) -> Option<bool>
+    ensures { result ≡ may_stand_on (held places.now) kind number (saying_of statement.now) }
+{
+    match *statement {
+        Statement::Whole(form) => Some(may_rest(kind, form.mnemonic)),
+        Statement::Aimed { form, name } => {
+            let back = is_back(number, places.get(name));
+            Some(may_aim(kind, form.mnemonic, back))
+        }
+        Statement::Nothing | Statement::Note { .. } => None,
+    }
+}
+
+/// Whether a note may stand on the word of a line. `None` where it has none.
+fn may_stand_at(
+    places: &Places<'_>,
+    kind: NoteKind,
+    number: usize,
+    line: &Option<Line<'_>>,
+) -> Option<bool>
+    ensures { result ≡ may_stand_at (held places.now) kind number (told line.now) }
+{
+    match line {
+        Some(line) => may_stand_on(places, kind, number, &line.statement),
+        None => None,
+    }
+}
+
+/// Whether a note may stand on the next word of these lines, from the one with this number on. A word has at most seven notes
+/// before its first bad line, so all of this takes time in proportion to the lines.
+fn may_stand(
+    places: &Places<'_>,
+    kind: NoteKind,
+    from: usize,
+    lines: &[Option<Line<'_>>],
+) -> bool
+    requires { from ≤ length lines.now }
+    ensures { result ≡ may_stand (held places.now) kind from (drop from (all_told lines.now)) }
+{
+    for number in from..lines.len() {
+        if let Some(stands) = may_stand_at(places, kind, number, &lines[number]) {
+            return stands;
+        }
+    }
+    false
+}
+
+fn is_lost_note(
+    places: &Places<'_>,
+    number: usize,
+    statement: &Statement<'_>,
+    lines: &[Option<Line<'_>>],
+) -> bool
+    requires { number < length lines.now }
+    ensures { result ≡ is_lost_note (held places.now) number (saying_of statement.now) (drop (number + 1) (all_told lines.now)) }
+{
+    match *statement {
+        Statement::Note { kind, .. } => !may_stand(places, kind, number + 1, lines),
+        Statement::Nothing | Statement::Whole(_) | Statement::Aimed { .. } => false,
+    }
+}
+
+// ---- lines
+
+fn cause_said(
+    places: &Places<'_>,
+    kinds: &[NoteKind],
+    number: usize,
+    line: &Line<'_>,
+    lines: &[Option<Line<'_>>],
+) -> Option<AsmCause>
+    requires { number < length lines.now }
+    ensures { result ≡ cause_of (held places.now) kinds.now number (Some (said_by line.now)) (drop (number + 1) (all_told lines.now)) }
+{
+    if is_out_of_range(kinds, line) {
         Some(AsmCause::Range)
-    } else if has_bad_label(labels, number, line) {
+    } else if has_bad_label(places, number, line) {
         Some(AsmCause::Label)
-    } else if is_lost_note(labels, lines.len(), behind, line) {
+    } else if is_lost_note(places, number, &line.statement, lines) {
         Some(AsmCause::Note)
     } else {
         None
     }
 }
 
-fn kind_of(line: &Line<'_>) -> Option<NoteKind> {
-    match line.statement {
-        Statement::Note { kind, .. } => Some(kind),
-        _ => None,
-    }
-}
-
-/// Whether the line is a note, and the word that it is on has one of its kind at a line before.
-fn is_second_note(before: &[Option<Line<'_>>], line: &Line<'_>) -> bool {
-    match kind_of(line) {
-        Some(kind) => ends_with_kind(before, kind),
-        None => false,
-    }
-}
-
-/// Whether a note of this kind is among the lines behind the last word. A word has at most seven notes before its first bad line, so
-/// all of this takes time in proportion to the lines.
-fn ends_with_kind(lines: &[Option<Line<'_>>], kind: NoteKind) -> bool {
-    let mut rest = lines;
-    while let Some((line, before)) = rest.split_last() {
-        if let Some(line) = line {
-            match line.statement {
-                Statement::Whole(_) | Statement::Aimed { .. } => return false,
-                Statement::Note { kind: other, .. } => {
-                    if other.number() == kind.number() {
-                        return true;
-                    }
-                }
-                Statement::Nothing => {}
-            }
-        }
-        rest = before;
-    }
-    false
-}
-
-fn has_bad_label(labels: &Labels<'_>, number: usize, line: &Line<'_>) -> bool {
-    is_second_place(labels, number, line) || aims_badly(labels, number, line)
-}
-
-fn is_second_place(labels: &Labels<'_>, number: usize, line: &Line<'_>) -> bool {
-    match line.label {
-        Some(name) => labels.line_of(name) != Some(number),
-        None => false,
-    }
-}
-
-/// Whether the line goes to a label that stands nowhere, or is a LOOP whose end isn't behind it.
-fn aims_badly(labels: &Labels<'_>, number: usize, line: &Line<'_>) -> bool {
-    let Statement::Aimed { form, name } = line.statement else {
-        return false;
-    };
-    match labels.line_of(name) {
-        Some(at) => matches!(form.mnemonic, Mnemonic::Loop) && at <= number,
-        None => true,
-    }
-}
-
-/// Whether the line is a note on no word, or on one on which it may not stand. `behind` are the lines behind it, of so many in all.
-fn is_lost_note(
-    labels: &Labels<'_>,
-    all: usize,
-    behind: &[Option<Line<'_>>],
-    line: &Line<'_>,
-) -> bool {
-    let Some(kind) = kind_of(line) else {
-        return false;
-    };
-    let mut rest = behind;
-    while let Some((next, others)) = rest.split_first() {
-        if let Some(line) = next
-            && let Some(stands) = may_stand(labels, kind, all.saturating_sub(rest.len()), line)
-        {
-            return !stands;
-        }
-        rest = others;
-    }
-    true
-}
-
-/// Whether a note of this kind may stand on the word at a line. `None` where the line has no word.
-fn may_stand(labels: &Labels<'_>, kind: NoteKind, place: usize, line: &Line<'_>) -> Option<bool> {
-    match line.statement {
-        Statement::Whole(form) => Some(may_rest(kind, form.mnemonic)),
-        Statement::Aimed { form, name } => {
-            Some(may_aim(kind, form.mnemonic, is_back(labels, place, name)))
-        }
-        Statement::Nothing | Statement::Note { .. } => None,
-    }
-}
-
-fn may_rest(kind: NoteKind, mnemonic: Mnemonic) -> bool {
-    match kind {
-        NoteKind::Own => matches!(
-            mnemonic,
-            Mnemonic::Lbbo | Mnemonic::Lbco | Mnemonic::Sbbo | Mnemonic::Sbco
-        ),
-        NoteKind::Return => matches!(mnemonic, Mnemonic::Jmp),
-        NoteKind::Turns => false,
-        NoteKind::Enter | NoteKind::DelayIn | NoteKind::DelayOut | NoteKind::Leave => true,
-    }
-}
-
-fn may_aim(kind: NoteKind, mnemonic: Mnemonic, back: bool) -> bool {
-    match kind {
-        NoteKind::Own | NoteKind::Return => false,
-        NoteKind::Turns => {
-            back && matches!(
-                mnemonic,
-                Mnemonic::Branch(_) | Mnemonic::Qba | Mnemonic::Jmp
-            )
-        }
-        NoteKind::Enter | NoteKind::DelayIn | NoteKind::DelayOut | NoteKind::Leave => true,
-    }
-}
-
-/// Whether the label isn't behind this line. One that stands nowhere is its word's own fault.
-fn is_back(labels: &Labels<'_>, place: usize, name: &[u8]) -> bool {
-    match labels.line_of(name) {
-        Some(at) => at <= place,
-        None => true,
-    }
-}
-
-/// What each line says.
-pub fn read_lines<'a>(alloc: Global, bytes: &'a [u8]) -> Result<Vec<Option<Line<'a>>>, Memory>
-    requires { length bytes.now + 1 < 2 ^ 32 }
+/// Why a line with this number, from 0, is bad among the lines, where the notes of these kinds wait for their word.
+fn cause_of(
+    places: &Places<'_>,
+    kinds: &[NoteKind],
+    number: usize,
+    line: &Option<Line<'_>>,
+    lines: &[Option<Line<'_>>],
+) -> Option<AsmCause>
+    requires { number < length lines.now }
+    ensures { result ≡ cause_of (held places.now) kinds.now number (told line.now) (drop (number + 1) (all_told lines.now)) }
 {
-    let mut said = Vec::new(alloc);
-    let mut lines = Lines::of(bytes);
-    while let Some(line) = lines.next_line() {
-        said.push(read_line(line))?;
+    match line {
+        Some(line) => cause_said(places, kinds, number, line, lines),
+        None => Some(AsmCause::Form),
     }
-    Ok(said)
+}
+
+fn pass_statement(kinds: &mut Vec<NoteKind>, statement: &Statement<'_>) -> Result<(), Memory>
+    ensures { OnOk result (kinds.new.items ≡ kinds_said kinds.old.items (saying_of statement.now)) }
+{
+    match *statement {
+        Statement::Note { kind, .. } => kinds.push(kind)?,
+        Statement::Whole(_) | Statement::Aimed { .. } => kinds.clear(),
+        Statement::Nothing => {}
+    }
+    Ok(())
+}
+
+/// Goes behind the line, with the kinds of the notes whose word is still to come.
+fn pass(kinds: &mut Vec<NoteKind>, line: &Option<Line<'_>>) -> Result<(), Memory>
+    ensures { OnOk result (kinds.new.items ≡ kinds_after kinds.old.items (told line.now)) }
+{
+    match line {
+        Some(line) => pass_statement(kinds, &line.statement),
+        None => Ok(()),
+    }
+}
+
+/// The first bad line, from 0, with its cause, where the labels stand at these places.
+pub fn first_bad(
+    alloc: Global,
+    places: &Places<'_>,
+    lines: &[Option<Line<'_>>],
+) -> Result<Option<(usize, AsmCause)>, Memory>
+    requires { (name : List ℕ) → held places.now name ≡ first_place (all_told lines.now) name }
+    ensures { IfOk result (λ bad. MatchOption bad (AreGood (length lines.now) (all_told lines.now))
+        (λ b. (b.0 < length lines.now) × IsFirstBad (all_told lines.now) b.0 b.1)) }
+{
+    let mut kinds = Vec::new(alloc);
+    for number in 0..lines.len() {
+        let line = &lines[number];
+        if let Some(cause) = cause_of(places, &kinds, number, line, lines) {
+            return Ok(Some((number, cause)));
+        }
+        pass(&mut kinds, line)?;
+    }
+    Ok(None)
 }

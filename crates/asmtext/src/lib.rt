@@ -3,11 +3,7 @@
 
 mod cause;
 mod judge;
-mod printing;
-mod reading;
-#[cfg(test)]
-mod tests;
+mod names;
+mod places;
 
 pub use cause::{AsmCause, AsmFault};
-pub use printing::print_asm;
-pub use reading::read_asm;

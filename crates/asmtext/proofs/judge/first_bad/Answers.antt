@@ -1,0 +1,7 @@
+use Rattle.asmtext.proofs.judge.first_bad.Goals as goal
+
+pub loop-number-preserved : goal.loop-number-preserved
+loop-number-preserved c = let h = c.loop-number in ?
+
+pub returns : goal.returns
+returns c = ?

@@ -1,0 +1,7 @@
+use Rattle.asmtext.proofs.names.Names.of.Goals as goal
+
+pub loop-line-preserved : goal.loop-line-preserved
+loop-line-preserved c = let h = c.loop-line in ?
+
+pub returns : goal.returns
+returns c = ?
