@@ -14,18 +14,17 @@ use Rattle.asmtext.specs.Notes.{kinds_after, kinds_behind, may_stand, may_stand_
 use Rattle.asmtext.specs.Causes.{cause_of, cause_at, AreGood, IsFirstBad}
 use Rattle.asmtext.specs.Held.{told, all_told}
 
-pub told_drop : (lines : List (Option Line)) (i : ℕ) (x : Option Line) → i < length lines → x ≡ get_or lines i x
-    → all_told (drop i lines) ≡ told x ∷ all_told (drop (i + 1) lines)
-told_drop lines i x h e = at_drop_more all_told lines i x h ∙ ap (λ y. told y ∷ all_told (drop (i + 1) lines)) (sym e)
+pub told_drop : (lines : List (Option Line)) (i : ℕ) → i < length lines
+    → all_told (drop i lines) ≡ told (get_or lines i None) ∷ all_told (drop (i + 1) lines)
+told_drop lines i h = at_drop_more all_told lines i None h
 
 pub told_length : (lines : List (Option Line)) → length (all_told lines) ≡ length lines
 told_length lines = length-map lines told
 
-pub told_at : (lines : List (Option Line)) (i : ℕ) (x : Option Line) → i < length lines → x ≡ get_or lines i x
-    → slice_get (all_told lines) i ≡ Some (told x)
-told_at lines i x h e =
-    slice_get-get_or (all_told lines) i (told x) (omega (arith, told_length lines))
-    ∙ ap Some (get_or-map told lines i x (told x) h ∙ ap told (sym e))
+pub told_at : (lines : List (Option Line)) (i : ℕ) → i < length lines
+    → slice_get (all_told lines) i ≡ Some (told (get_or lines i None))
+told_at lines i h =
+    slice_get-get_or (all_told lines) i None (omega (arith, told_length lines)) ∙ ap Some (get_or-map told lines i None None h)
 
 pub line_drop : (lines : Lines) (i : ℕ) (line : Option Said) → i < length lines → slice_get lines i ≡ Some line
     → drop i lines ≡ line ∷ drop (i + 1) lines

@@ -6,6 +6,7 @@ use Rattle.isa.specs.declared.program.Item.TheVariants as item
 use Rattle.isa.specs.declared.program.Target.TheVariants as target
 use Rattle.asmword.specs.Instructions.{made}
 use Rattle.asmline.specs.Said.{Saying, nothing, note, whole, aimed, Said}
+use Rattle.branchfit.specs.Fits.{named}
 use Rattle.asmtext.specs.Labels.{Lines, names_of, number_in}
 
 -- labels have their numbers by these names
@@ -15,7 +16,7 @@ label_item names (Some name) = Some (item.Label (number_in names name))
 
 abbrev pub saying_item : List (List ℕ) → Saying → Option Item
 saying_item names nothing = None
-saying_item names (note kind value) = Some (item.Note kind value)
+saying_item names (note kind value) = Some (item.Note kind (named value))
 saying_item names (whole form) = option_map (λ i. item.Whole i) (made form.mnemonic form.operands)
 saying_item names (aimed form name) =
     option_map (λ i. item.Aimed i (target.Label (number_in names name))) (made form.mnemonic form.operands)

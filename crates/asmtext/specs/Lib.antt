@@ -2,4 +2,5 @@ pub mod Causes
 pub mod Held
 pub mod Items
 pub mod Labels
+pub mod Made
 pub mod Notes

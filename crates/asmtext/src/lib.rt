@@ -2,6 +2,7 @@
 #![tactic(auto)]
 
 mod cause;
+mod items;
 mod judge;
 mod names;
 mod places;
