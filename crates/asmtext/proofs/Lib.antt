@@ -4,3 +4,6 @@ pub mod LineLemmas
 pub mod NameLemmas
 pub mod NumberLemmas
 pub mod PlaceLemmas
+pub mod ReadLemmas
+pub mod WholeLemmas
+pub mod WordLemmas

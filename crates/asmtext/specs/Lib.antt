@@ -4,3 +4,4 @@ pub mod Items
 pub mod Labels
 pub mod Made
 pub mod Notes
+pub mod Reading

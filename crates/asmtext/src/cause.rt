@@ -1,3 +1,8 @@
+//! Why texts are refused.
+
+ghost use Rattle.std.specs.Prelude.{◌≡◌};
+ghost use Rattle.asmtext.specs.declared.cause.AsmFault.TheVariants as faults;
+
 use prunum::Memory;
 use std::fmt;
 use thiserror::Error;
@@ -35,6 +40,14 @@ impl fmt::Display for AsmCause {
 pub enum AsmFault {
     #[error("{line} {cause}")]
     Line { line: u32, cause: AsmCause },
-    #[error("{0}")]
-    Memory(#[from] Memory),
+    #[error("memory")]
+    Memory,
+}
+
+impl From<Memory> for AsmFault {
+    ghost from_gives = { λ _ e. e ≡ faults.Memory };
+
+    fn from(_: Memory) -> AsmFault {
+        AsmFault::Memory
+    }
 }

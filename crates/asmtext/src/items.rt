@@ -17,7 +17,7 @@ use isa::{Inst, Item, Target};
 use prunum::Memory;
 use std::alloc::Global;
 
-fn label_item(names: &Names<'_>, line: &Line<'_>) -> Option<Item>
+pub fn label_item(names: &Names<'_>, line: &Line<'_>) -> Option<Item>
     requires { length (names_held names.now) < 2 ^ 32 }
     ensures { result ≡ label_item (names_held names.now) (said_by line.now).label }
 {
@@ -41,7 +41,7 @@ fn named(value: u64) -> u32
     value.min(u64::from(u32::MAX)) as u32
 }
 
-fn statement_item(names: &Names<'_>, line: &Line<'_>) -> Option<Item>
+pub fn statement_item(names: &Names<'_>, line: &Line<'_>) -> Option<Item>
     requires { length (names_held names.now) < 2 ^ 32 }
     ensures item { result ≡ saying_item (names_held names.now) (said_by line.now).saying }
     ensures made { IsMadeSaying (said_by line.now).saying }

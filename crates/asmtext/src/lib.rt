@@ -6,5 +6,7 @@ mod items;
 mod judge;
 mod names;
 mod places;
+mod reading;
 
 pub use cause::{AsmCause, AsmFault};
+pub use reading::read_asm;
