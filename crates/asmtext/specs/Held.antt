@@ -5,6 +5,7 @@ use Rattle.std.specs.Str.{bytes_eq}
 use Rattle.asmline.specs.declared.line.Line.{Line}
 use Rattle.asmline.specs.Said.{Said, said_by}
 use Rattle.asmtext.specs.declared.names.Names.{Names}
+use Rattle.asmtext.specs.declared.numbers.Numbers.{Numbers}
 use Rattle.asmtext.specs.declared.places.Places.{Places}
 use Rattle.asmtext.specs.Labels.{Lines}
 
@@ -27,3 +28,7 @@ or_else (Some a) b = Some a
 -- the names, in order
 abbrev pub names_held : Names → List (List ℕ)
 names_held names = map (λ name. name.now) names.by_appearance.keys
+
+-- the labels, in order
+abbrev pub labels_held : Numbers → List ℕ
+labels_held numbers = numbers.by_appearance.keys

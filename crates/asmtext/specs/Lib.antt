@@ -4,4 +4,5 @@ pub mod Items
 pub mod Labels
 pub mod Made
 pub mod Notes
+pub mod Printing
 pub mod Reading
