@@ -3,7 +3,9 @@ pub mod LabelledLemmas
 pub mod LineLemmas
 pub mod NameLemmas
 pub mod NumberLemmas
+pub mod OnceLemmas
 pub mod PlaceLemmas
+pub mod PrintLemmas
 pub mod ReadLemmas
 pub mod WholeLemmas
 pub mod WordLemmas

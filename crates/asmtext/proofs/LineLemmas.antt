@@ -24,7 +24,8 @@ use Rattle.asmtext.specs.Items.{label_item, saying_item, line_items}
 use Rattle.asmtext.specs.Labels.{Lines, is_named, stands_on, first_place, number_in}
 use Rattle.asmtext.specs.Notes.{kinds_after, kinds_behind}
 use Rattle.asmtext.proofs.JudgeLemmas.{cause_is, kinds_more}
-use Rattle.asmtext.proofs.NumberLemmas.{or_right, or_left, same_name, Has, same_number}
+use Rattle.asmtext.proofs.NumberLemmas.{same_name, Has, same_number}
+use Rattle.asmtext.proofs.OnceLemmas.{or_right, or_left}
 
 -- ---- tests
 

@@ -30,7 +30,8 @@ use Rattle.asmtext.specs.Labels.{Lines, is_named, stands_on, first_place, number
 use Rattle.asmtext.specs.Made.{IsMadeOf, IsMadeSaying, IsMade, IsLabelledSaying, IsLabelled}
 use Rattle.asmtext.specs.Notes.{kinds_said, kinds_after, has_kind, may_rest, may_aim, is_back, may_stand_on, may_stand, else_}
 use Rattle.asmtext.proofs.LineLemmas.{GoodLine, good_line, AllGood, all_good, items_by, labels_said, has_standing, absent, not_false, not_below, same_test}
-use Rattle.asmtext.proofs.NumberLemmas.{Has, all_have, or_right, or_left, own_name, same_name}
+use Rattle.asmtext.proofs.NumberLemmas.{Has, all_have, own_name, same_name}
+use Rattle.asmtext.proofs.OnceLemmas.{or_right, or_left}
 use Rattle.asmtext.proofs.PlaceLemmas.{KnowsTo, knows_begin, knows_on}
 use Rattle.asmtext.proofs.WordLemmas.{may_rest_too, may_aim_too, aimed_precedes}
 
@@ -313,8 +314,8 @@ rest_good lines names (Some said ∷ rest) n held before kinds at good well labe
     let all = labels (items_by names lines) in
     let told = all_front (Has names) (names_told (Some said)) (flat_map names_told rest) known in
     let behind = rest_good lines names rest (n + 1) (next_held held n said) (next_before names said.label before) (kinds_said kinds said.saying) next
-        good.1 well.1 label.1 (all_back (Has names) (names_told (Some said)) (flat_map names_told rest) known)
-        (pending_next (first_place lines) n said.saying kinds rest line.stands may) in
+    good.1 well.1 label.1 (all_back (Has names) (names_told (Some said)) (flat_map names_told rest) known)
+    (pending_next (first_place lines) n said.saying kinds rest line.stands may) in
     let front = option_to_list (label_item names said.label) in
     let back = option_to_list (saying_item names said.saying) in
     subst (Good all before kinds) (sym (append_assoc front back (items_by names rest)))
@@ -340,5 +341,5 @@ items_whole lines good well label =
       seen = λ a k e. absurd (cc);
     } in
     let judged = judged_good (items_of lines) (rest_good lines (names_of lines) lines 0 (λ a. None) [] [] start (all_good lines lines 0 refl good)
-        well label (all_have [] (flat_map names_told lines)) tt) in
+    well label (all_have [] (flat_map names_told lines)) tt) in
     (judged_result (Ok true) (items_of lines) (sym judged)).0 refl

@@ -8,7 +8,6 @@ ghost use Rattle.asmtext.specs.Notes.{may_stand_on, may_stand_at, may_stand};
 ghost use Rattle.asmtext.specs.Causes.{is_second_note, is_out_of_range, is_second_place, is_loop, misses, aims_badly};
 ghost use Rattle.asmtext.specs.Causes.{has_bad_label, is_lost_note, cause_of, AreGood, IsFirstBad};
 ghost use Rattle.std.specs.Prelude.{OnOk, IfOk, MatchOption, ◌+◌, ◌<◌, ◌≤◌, length, drop};
-
 ghost use Rattle.asmword.specs.Words.{is_below};
 ghost use Rattle.asmtext.specs.Labels.{first_place};
 
@@ -187,12 +186,7 @@ fn may_stand_at(
 
 /// Whether a note may stand on the next word of these lines, from the one with this number on. A word has at most seven notes
 /// before its first bad line, so all of this takes time in proportion to the lines.
-fn may_stand(
-    places: &Places<'_>,
-    kind: NoteKind,
-    from: usize,
-    lines: &[Option<Line<'_>>],
-) -> bool
+fn may_stand(places: &Places<'_>, kind: NoteKind, from: usize, lines: &[Option<Line<'_>>]) -> bool
     requires { from ≤ length lines.now }
     ensures { result ≡ may_stand (held places.now) kind from (drop from (all_told lines.now)) }
 {

@@ -57,7 +57,10 @@ fn labels_loops_and_notes_are_judged_among_the_lines(rt: HostRuntime) -> Result<
         (b"LOOP L1, 4\nL1: HALT".as_slice(), (1, AsmCause::Range)),
         (b"L1: LOOP L1, 4\nHALT", (1, AsmCause::Label)),
         (b"L1: HALT\nLOOP L1, 4\nHALT", (2, AsmCause::Label)),
-        (b"HALT\nLOOP end, 4 ; too long\nlong: QBNE end, R2, 0\nend:", (0, AsmCause::Size)),
+        (
+            b"HALT\nLOOP end, 4 ; too long\nlong: QBNE end, R2, 0\nend:",
+            (0, AsmCause::Size),
+        ),
         // A Turns note stands on a word that goes back; where the label stands nowhere, that alone is at fault.
         (b".note turns 3\nQBA L1\nL1: HALT", (1, AsmCause::Note)),
         (b".note turns 3\nQBA L9", (2, AsmCause::Label)),
@@ -104,9 +107,10 @@ fn what_is_read_is_printed(rt: HostRuntime) -> Result<(), Fail> {
             b"JMP R32\nR32: JAL R3.w2, R32\n",
             b"JMP L1\nL1:\nJAL R3.w2, L1\n",
         ),
+        (b"LOOP b, 256\nNOT R1, R2\nb: a: JMP b", b""),
         (
-            b"LOOP b, 256\nNOT R1, R2\nb: a: JMP b",
-            b"",
+            b"  LDI   R2, 8  ; pulses to go\npulse:  SET R30, R30, 0 ; high\n  CLR R30, R30, 0\n\tSUB R2, R2, 1\n  .note turns 8\n  QBNE pulse, R2, 0\n  HALT\n",
+            b"LDI R2, 8\nL1:\nSET R30, R30, 0\nCLR R30, R30, 0\nSUB R2, R2, 1\n.note turns 8\nQBNE L1, R2, 0\nHALT\n",
         ),
         (b"L1:; a label\nL2:\nQBA L2", b"L1:\nL2:\nQBA L2\n"),
         (b"", b""),

@@ -10,8 +10,7 @@ loop-number-preserved c =
     let lines = c.args.lines.now in
     let i = c.loop-number.number in
     let line = told (get_or lines i None) in
-    let at = told_at lines i c.loop-number-test.true in
-    (
+    let at = told_at lines i c.loop-number-test.true in (
       c.in_ok-pass.ensures ∙ ap (λ kinds. kinds_after kinds line) c.loop-number.invariant.0
           ∙ sym (kinds_more (all_told lines) i line (omega (arith, told_length lines)) at),
       good_more (all_told lines) i c.loop-number.invariant.1
@@ -24,8 +23,7 @@ returns-in-Some c =
     let lines = c.args.lines.now in
     let i = c.loop-number.number in
     let line = told (get_or lines i None) in
-    let at = told_at lines i c.loop-number-test.true in
-    (
+    let at = told_at lines i c.loop-number-test.true in (
       c.loop-number-test.true,
       record {
         bad = sym (cause_is (all_told lines) (held c.args.places.now) c.deref.result.now i line c.requires

@@ -32,7 +32,7 @@ returns-then-item-count-clause-line c =
     let more = before_more (all_told lines) i line (omega (arith, told_length lines)) (told_at lines i c.loop-number-test.true) in
     let value = c.count_line-count.ensures.value ∙ ap (λ names. length (line_items names line)) c.requires.names in
     let all = ap (λ n. n + c.count_line-count.result) c.loop-number.invariant.items
-        ∙ ap (λ n. length (items_before (all_told lines) i) + n) value ∙ sym more in
+    ∙ ap (λ n. length (items_before (all_told lines) i) + n) value ∙ sym more in
     record {
       from = omega (arith, c.loop-number.invariant.items, c.loop-number.invariant.behind);
       to = omega (arith, all, c.if-item-count.true);

@@ -22,18 +22,18 @@ pub line_of_item-requires-clause-within : goal.line_of_item-requires-clause-with
 line_of_item-requires-clause-within c =
     let lines = all_told c.args.lines.now in
     let f : Found (items_of lines) c.in-Some.item = found (items_of lines) c.in-Some.item
-        (omega (arith, items_few lines, told_length c.args.lines.now, c.requires.few))
-        (subst (λ o. IsLongLoop (items_of lines) o) c.in-Some.is
-        (subst (λ p. IsLongLoop p c.in_ok-item.field-0) (c.new-program.ensures ∙ c.in_ok-items_of.ensures.items) c.in_ok-item.ensures)) in
+    (omega (arith, items_few lines, told_length c.args.lines.now, c.requires.few))
+    (subst (λ o. IsLongLoop (items_of lines) o) c.in-Some.is
+    (subst (λ p. IsLongLoop p c.in_ok-item.field-0) (c.new-program.ensures ∙ c.in_ok-items_of.ensures.items) c.in_ok-item.ensures)) in
     f.within
 
 pub returns-in-Some-clause-fault : goal.returns-in-Some-clause-fault
 returns-in-Some-clause-fault c =
     let lines = all_told c.args.lines.now in
     let f : Found (items_of lines) c.in-Some.item = found (items_of lines) c.in-Some.item
-        (omega (arith, items_few lines, told_length c.args.lines.now, c.requires.few))
-        (subst (λ o. IsLongLoop (items_of lines) o) c.in-Some.is
-        (subst (λ p. IsLongLoop p c.in_ok-item.field-0) (c.new-program.ensures ∙ c.in_ok-items_of.ensures.items) c.in_ok-item.ensures)) in
+    (omega (arith, items_few lines, told_length c.args.lines.now, c.requires.few))
+    (subst (λ o. IsLongLoop (items_of lines) o) c.in-Some.is
+    (subst (λ p. IsLongLoop p c.in_ok-item.field-0) (c.new-program.ensures ∙ c.in_ok-items_of.ensures.items) c.in_ok-item.ensures)) in
     subst (IsFaultOf lines) (sym c.fault.ensures)
     (long_line lines c.in-Some.item c.line_of_item.result (good_told c.args.lines.now c.requires.good) f c.line_of_item.ensures.line)
 

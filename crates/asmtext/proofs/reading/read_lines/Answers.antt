@@ -9,8 +9,7 @@ use Rattle.asmtext.proofs.reading.read_lines.Goals as goal
 pub loop-line-preserved : goal.loop-line-preserved
 loop-line-preserved c =
     let old = all_told c.loop-line.said.items in
-    let rest = map said_in (lines_of c.next_line.new.self.text) in
-    (
+    let rest = map said_in (lines_of c.next_line.new.self.text) in (
       ap (λ lines. lines ++ rest) c.in_ok-push_line.ensures.told
           ∙ append_assoc old (said_in c.in-Some.line.now ∷ []) rest
           ∙ sym (ap (λ lines. old ++ map said_in lines) c.in-Some.ensures.some)

@@ -9,8 +9,7 @@ use Rattle.asmtext.proofs.places.Places.of.Goals as goal
 pub loop-line-preserved : goal.loop-line-preserved
 loop-line-preserved c =
     let lines = c.args.lines.now in
-    let i = c.loop-line.line-index in
-    (
+    let i = c.loop-line.line-index in (
       knows_on (all_told lines) c.loop-line.number (held c.loop-line.places) (held c.put_line.new.self) (told (get_or lines i None))
           (all_told (drop (i + 1) lines))
           (subst (λ r. KnowsTo (all_told lines) c.loop-line.number r (held c.loop-line.places)) (told_drop lines i c.loop-line-test.true)
