@@ -1,5 +1,6 @@
 -- One line more.
-use Rattle.std.proofs.Common.{◌≡◌, ℕ, ◌+◌, ◌<◌, ◌≤◌, List, [], ◌∷◌, Bool, false, Option, Some, None, refl, ap, sym, ◌∙◌, arith, length, map, take, drop, get_or, slice_get}
+use Rattle.std.proofs.Common.{◌≡◌, ℕ, ◌+◌, ◌<◌, ◌≤◌, List, [], ◌∷◌, Bool, false, Option, Some, None, refl, ap, sym, ◌∙◌, arith}
+use Rattle.std.proofs.Common.{length, map, take, drop, get_or, slice_get}
 use Rattle.std.specs.Prelude.{fold, option_map, option_and_then}
 use Rattle.std.proofs.lemmas.List.{at_drop_more, at_drop_all, get_or-map, length-map}
 use Rattle.std.proofs.lemmas.List.Sums.{fold_more}
@@ -54,7 +55,8 @@ pub stands_here : (places : List ℕ → Option ℕ) (kind : NoteKind) (i : ℕ)
     → i < length lines → slice_get lines i ≡ Some line → may_stand_at places kind i line ≡ Some stands
     → stands ≡ may_stand places kind i (drop i lines)
 stands_here places kind i lines line stands h at e =
-    sym (ap (may_stand places kind i) (line_drop lines i line h at) ∙ ap (λ o. else_ o (may_stand places kind (i + 1) (drop (i + 1) lines))) e)
+    sym (ap (may_stand places kind i) (line_drop lines i line h at) ∙ ap (λ o. else_ o (may_stand places kind (i + 1) (drop
+    (i + 1) lines))) e)
 
 pub stands_on_next : (places : List ℕ → Option ℕ) (kind : NoteKind) (i : ℕ) (lines : Lines) (line : Option Said)
     → i < length lines → slice_get lines i ≡ Some line → may_stand_at places kind i line ≡ None

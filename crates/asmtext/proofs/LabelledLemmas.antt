@@ -47,7 +47,8 @@ word_labelled form text = by (has_label form.operands) refl
   where
     by : (t : Bool) → has_label form.operands ≡ t
         → Where IsLabelledSaying (cond t (option_map (aimed form) (label_in form text)) (Some (whole form)))
-    by true e = mapped IsLabelledSaying (aimed form) (label_in form text) (every (λ name. has_label form.operands ≡ true) (label_in form text) (λ name. e))
+    by true e = mapped IsLabelledSaying (aimed form) (label_in form text) (every (λ name. has_label form.operands ≡ true)
+        (label_in form text) (λ name. e))
     by false e = e
 
 saying_labelled : (text : List ℕ) → Where IsLabelledSaying (saying_in text)

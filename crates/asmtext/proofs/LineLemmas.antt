@@ -1,5 +1,6 @@
 -- Good lines, and the labels on them.
-use Rattle.std.proofs.Common.{◌≡◌, ℕ, suc, ◌+◌, ◌<◌, List, [], ◌∷◌, ◌++◌, Bool, true, false, not, ◌||◌, Option, Some, None, refl, ap, sym, subst, ◌∙◌, arith, length, take, drop, get_or, slice_get}
+use Rattle.std.proofs.Common.{◌≡◌, ℕ, suc, ◌+◌, ◌<◌, List, [], ◌∷◌, ◌++◌, Bool, true, false, not, ◌||◌, Option, Some, None, refl, ap}
+use Rattle.std.proofs.Common.{sym, subst, ◌∙◌, arith, length, take, drop, get_or, slice_get}
 use Rattle.std.specs.Prelude.{nat_eq, nat_lt, option_map, option_to_list, if◌then◌else◌}
 use Rattle.std.specs.List.{flat_map}
 use Rattle.std.specs.Str.{bytes_eq}
@@ -18,7 +19,8 @@ use Rattle.asmword.specs.Words.{is_below}
 use Rattle.asmline.specs.Said.{Saying, nothing, note, whole, aimed, Said, saying_fits}
 use Rattle.asmtext.specs.declared.cause.AsmCause.{AsmCause}
 use Rattle.asmtext.specs.declared.cause.AsmCause.TheVariants as causes
-use Rattle.asmtext.specs.Causes.{is_second_note, is_out_of_range, is_second_place, aims_badly, has_bad_label, is_lost_note, cause_of, cause_at, AreGood}
+use Rattle.asmtext.specs.Causes.{is_second_note, is_out_of_range, is_second_place, aims_badly, has_bad_label, is_lost_note, cause_of}
+use Rattle.asmtext.specs.Causes.{cause_at, AreGood}
 use Rattle.asmtext.specs.Held.{or_else}
 use Rattle.asmtext.specs.Items.{label_item, saying_item, line_items}
 use Rattle.asmtext.specs.Labels.{Lines, is_named, stands_on, first_place, number_in}
@@ -66,7 +68,8 @@ pub record GoodLine (places : List ℕ → Option ℕ) (kinds : List NoteKind) (
 pub good_line : (places : List ℕ → Option ℕ) (kinds : List NoteKind) (n : ℕ) (said : Said) (rest : Lines)
     → cause_of places kinds n (Some said) rest ≡ None → GoodLine places kinds n said rest
 good_line places kinds n said rest h =
-    let parts = cause_parts (is_out_of_range kinds said.saying) (has_bad_label places n said) (is_lost_note places n said.saying rest) h in
+    let parts = cause_parts (is_out_of_range kinds said.saying) (has_bad_label places n said)
+    (is_lost_note places n said.saying rest) h in
     let range = or_parts (not (saying_fits said.saying)) (is_second_note kinds said.saying) parts.0 in
     let label = or_parts (is_second_place places n said.label) (aims_badly places n said.saying) parts.1 in
     record {

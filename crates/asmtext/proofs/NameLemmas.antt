@@ -1,5 +1,6 @@
 -- Names by first appearance.
-use Rattle.std.proofs.Common.{◌≡◌, ℕ, ◌+◌, List, [], ◌∷◌, ◌++◌, Bool, true, false, Option, Some, None, refl, ap, sym, ◌∙◌, arith, length, map}
+use Rattle.std.proofs.Common.{◌≡◌, ℕ, ◌+◌, List, [], ◌∷◌, ◌++◌, Bool, true, false, Option, Some, None, refl, ap, sym, ◌∙◌, arith}
+use Rattle.std.proofs.Common.{length, map}
 use Rattle.std.specs.Prelude.{fold, position, if◌then◌else◌, ◌||◌}
 use Rattle.std.specs.List.{list_any, prefix_len, position_or_len, flat_map}
 use Rattle.std.specs.Prelude.{not, nat_lt, cond}

@@ -1,5 +1,6 @@
 -- Lists that have each thing once, by first appearance.
-use Rattle.std.proofs.Common.{◌≡◌, ℕ, ◌+◌, ◌<◌, List, [], ◌∷◌, ◌++◌, Bool, true, false, cond, not, ◌||◌, Option, Some, None, refl, ap, sym, ◌∙◌, subst, arith, length, get_or, append_assoc}
+use Rattle.std.proofs.Common.{◌≡◌, ℕ, ◌+◌, ◌<◌, List, [], ◌∷◌, ◌++◌, Bool, true, false, cond, not, ◌||◌, Option, Some, None, refl, ap}
+use Rattle.std.proofs.Common.{sym, ◌∙◌, subst, arith, length, get_or, append_assoc}
 use Rattle.std.specs.Prelude.{fold, position, nat_lt, if◌then◌else◌}
 use Rattle.std.specs.List.{list_any, prefix_len, position_or_len, AllByRecursion}
 use Rattle.std.proofs.lemmas.Bool.Decides.{nat_tests}

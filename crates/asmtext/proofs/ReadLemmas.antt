@@ -1,5 +1,6 @@
 -- How many names and items there are, and the line that has an item.
-use Rattle.std.proofs.Common.{◌≡◌, ℕ, suc, ◌+◌, ◌-◌, ◌*◌, ◌<◌, ◌≤◌, ◌^◌, List, [], ◌∷◌, ◌++◌, Bool, true, false, Option, Some, None, refl, ap, sym, ◌∙◌, arith, length, map, take, slice_get, inl, inr}
+use Rattle.std.proofs.Common.{◌≡◌, ℕ, suc, ◌+◌, ◌-◌, ◌*◌, ◌<◌, ◌≤◌, ◌^◌, List, [], ◌∷◌, ◌++◌, Bool, true, false, Option, Some, None}
+use Rattle.std.proofs.Common.{refl, ap, sym, ◌∙◌, arith, length, map, take, slice_get, inl, inr}
 use Rattle.std.specs.Prelude.{fold, min, option_map, option_to_list, if◌then◌else◌}
 use Rattle.std.specs.List.{list_any, flat_map}
 use Rattle.std.specs.Str.{bytes_eq}
@@ -121,7 +122,8 @@ found items item few h = by (first_long h.layout 0 items) refl
         let s : m ≡ item = cc in
         record { layout = h.layout; places = h.places; first = f ∙ ap Some s; within = omega arith }
 
-pub long_line : (lines : Lines) (item number : ℕ) → AreGood (length lines) lines → Found (items_of lines) item → IsItemOf lines item number
+pub long_line : (lines : Lines) (item number : ℕ) → AreGood (length lines) lines → Found (items_of lines) item
+    → IsItemOf lines item number
     → IsBadLine lines (number + 1) causes.Range
 long_line lines item number good f line = record {
   number = number;
@@ -137,7 +139,8 @@ long_line lines item number good f line = record {
   });
 }
 
-pub good_told : (lines : List (Option Line)) → AreGood (length lines) (all_told lines) → AreGood (length (all_told lines)) (all_told lines)
+pub good_told : (lines : List (Option Line)) → AreGood (length lines) (all_told lines) → AreGood (length (all_told lines))
+    (all_told lines)
 good_told lines good k h = good k (omega (arith, told_length lines))
 
 pub first_line : (lines : Lines) (number : ℕ) (cause : AsmCause) → IsFirstBad lines number cause → IsBadLine lines (number + 1) cause

@@ -1,5 +1,6 @@
 -- The items of good lines are a whole program.
-use Rattle.std.proofs.Common.{◌≡◌, ℕ, suc, ◌+◌, ◌-◌, ◌<◌, ◌≤◌, ◌^◌, List, [], ◌∷◌, ◌++◌, Bool, true, false, not, ◌||◌, ◌&&◌, Option, Some, None, refl, ap, sym, subst, ◌∙◌, arith, length, take, append_assoc}
+use Rattle.std.proofs.Common.{◌≡◌, ℕ, suc, ◌+◌, ◌-◌, ◌<◌, ◌≤◌, ◌^◌, List, [], ◌∷◌, ◌++◌, Bool, true, false, not, ◌||◌, ◌&&◌, Option}
+use Rattle.std.proofs.Common.{Some, None, refl, ap, sym, subst, ◌∙◌, arith, length, take, append_assoc}
 use Rattle.std.specs.Prelude.{Ok, min, nat_eq, nat_lt, nat_le, is_some, option_map, option_to_list, if◌then◌else◌}
 use Rattle.std.specs.List.{list_all, flat_map, AllByRecursion}
 use Rattle.std.proofs.lemmas.Bool.{and_parts, and_from}
@@ -29,7 +30,8 @@ use Rattle.asmtext.specs.Items.{label_item, saying_item, line_items, items_of}
 use Rattle.asmtext.specs.Labels.{Lines, is_named, stands_on, first_place, number_in, name_aimed, names_told, names_of, with_name}
 use Rattle.asmtext.specs.Made.{IsMadeOf, IsMadeSaying, IsMade, IsLabelledSaying, IsLabelled}
 use Rattle.asmtext.specs.Notes.{kinds_said, kinds_after, has_kind, may_rest, may_aim, is_back, may_stand_on, may_stand, else_}
-use Rattle.asmtext.proofs.LineLemmas.{GoodLine, good_line, AllGood, all_good, items_by, labels_said, has_standing, absent, not_false, not_below, same_test}
+use Rattle.asmtext.proofs.LineLemmas.{GoodLine, good_line, AllGood, all_good, items_by, labels_said, has_standing, absent, not_false}
+use Rattle.asmtext.proofs.LineLemmas.{not_below, same_test}
 use Rattle.asmtext.proofs.NumberLemmas.{Has, all_have, own_name, same_name}
 use Rattle.asmtext.proofs.OnceLemmas.{or_right, or_left}
 use Rattle.asmtext.proofs.PlaceLemmas.{KnowsTo, knows_begin, knows_on}
@@ -64,7 +66,8 @@ abbrev next_before : List (List ℕ) → Option (List ℕ) → List ℕ → List
 next_before names None before = before
 next_before names (Some b) before = number_in names b ∷ before
 
-low_next : (o : Option ℕ) (t : Bool) (n k : ℕ) → ((j : ℕ) → o ≡ Some j → j < n) → or_else o (if t then Some n else None) ≡ Some k → k < n + 1
+low_next : (o : Option ℕ) (t : Bool) (n k : ℕ) → ((j : ℕ) → o ≡ Some j → j < n) → or_else o (if t then Some n else None) ≡ Some k
+    → k < n + 1
 low_next (Some j) t n k f e = let s : j ≡ k = cc in let l = f j refl in omega arith
 low_next None true n k f e = let s : n ≡ k = cc in omega arith
 low_next None false n k f e = absurd (cc)
@@ -73,7 +76,8 @@ seen_next : (names : List (List ℕ)) (before : List ℕ) (o : Option ℕ) (labe
     → ((j : ℕ) → o ≡ Some j → has before (number_in names a) ≡ true) → or_else o (if is_named a label then Some n else None) ≡ Some k
     → has (next_before names label before) (number_in names a) ≡ true
 seen_next names before (Some j) None a n k f e = f j refl
-seen_next names before (Some j) (Some b) a n k f e = or_right (nat_eq (number_in names a) (number_in names b)) (has before (number_in names a)) (f j refl)
+seen_next names before (Some j) (Some b) a n k f e = or_right (nat_eq (number_in names a) (number_in names b)) (has before
+    (number_in names a)) (f j refl)
 seen_next names before None None a n k f e = absurd (cc)
 seen_next names before None (Some b) a n k f e = by _ refl e
   where
@@ -105,10 +109,12 @@ behind_from (Some j) n p e = let s : n + j ≡ p = cc in (j, refl, s)
 unheld : (lines : Lines) (n : ℕ) (rest : Lines) (held : List ℕ → Option ℕ) (a : List ℕ) (p : ℕ) → KnowsTo lines n rest held
     → held a ≡ None → first_place lines a ≡ Some p → (j : ℕ) × (first_place rest a ≡ Some j) × (n + j ≡ p)
 unheld lines n rest held a p known none e =
-    behind_from (first_place rest a) n p (sym (ap (λ o. or_else o (option_map (λ j. n + j) (first_place rest a))) none) ∙ known.each a ∙ e)
+    behind_from (first_place rest a) n p (sym (ap (λ o. or_else o (option_map (λ j. n + j) (first_place rest a))) none)
+    ∙ known.each a ∙ e)
 
 -- a label that stands before the line n
-before_has : (lines : Lines) (names : List (List ℕ)) (n : ℕ) (rest : Lines) (held : List ℕ → Option ℕ) (before : List ℕ) (a : List ℕ) (p : ℕ)
+before_has : (lines : Lines) (names : List (List ℕ)) (n : ℕ) (rest : Lines) (held : List ℕ → Option ℕ) (before : List ℕ)
+    (a : List ℕ) (p : ℕ)
     → At lines names n rest held before → first_place lines a ≡ Some p → p < n → has before (number_in names a) ≡ true
 before_has lines names n rest held before a p h e low = by (held a) refl
   where
@@ -117,8 +123,10 @@ before_has lines names n rest held before a p h e low = by (held a) refl
     by None f = let u = unheld lines n rest held a p h.known f e in let w : n + u.0 ≡ p = u.2 in absurd (omega arith)
 
 -- and one that stands at it or behind
-behind_has : (lines : Lines) (names : List (List ℕ)) (n : ℕ) (rest : Lines) (held : List ℕ → Option ℕ) (before : List ℕ) (a : List ℕ) (p : ℕ)
-    → At lines names n rest held before → first_place lines a ≡ Some p → n ≤ p → has (labels (items_by names rest)) (number_in names a) ≡ true
+behind_has : (lines : Lines) (names : List (List ℕ)) (n : ℕ) (rest : Lines) (held : List ℕ → Option ℕ) (before : List ℕ)
+    (a : List ℕ) (p : ℕ)
+    → At lines names n rest held before → first_place lines a ≡ Some p → n ≤ p → has (labels (items_by names rest))
+    (number_in names a) ≡ true
 behind_has lines names n rest held before a p h e high = by (held a) refl
   where
     by : (o : Option ℕ) → held a ≡ o → has (labels (items_by names rest)) (number_in names a) ≡ true
@@ -177,7 +185,8 @@ all_rest : (i : Inst) (form : Form) (kinds : List NoteKind) → written i ≡ fo
     → AllByRecursion (λ k. may_rest k form.mnemonic ≡ true) kinds → list_all (λ k. program.may_rest k i) kinds ≡ true
 all_rest i form [] e t h = refl
 all_rest i form (k ∷ kinds) e t h =
-    and_from (program.may_rest k i) (list_all (λ k. program.may_rest k i) kinds) (may_rest_too k i form e t h.0) (all_rest i form kinds e t h.1)
+    and_from (program.may_rest k i) (list_all (λ k. program.may_rest k i) kinds) (may_rest_too k i form e t h.0)
+    (all_rest i form kinds e t h.1)
 
 whole_good : (all before : List ℕ) (kinds : List NoteKind) (form : Form) (o : Option Inst) (items : List Item)
     → made form.mnemonic form.operands ≡ o → is_some o ≡ true → IsMadeOf form → has_label form.operands ≡ false
@@ -192,7 +201,8 @@ whole_good all before kinds form (Some i) items e some well label may h =
       placed = h.placed;
       there = h.there;
       formed = and_from (not (has_target i)) (list_all is_formed items) (ap not aims) h.formed;
-      notes = and_from (list_all (λ k. program.may_rest k i) kinds) (notes_stand before [] items) (all_rest i form kinds w.0 aims may) h.notes;
+      notes = and_from (list_all (λ k. program.may_rest k i) kinds) (notes_stand before [] items)
+          (all_rest i form kinds w.0 aims may) h.notes;
     }
 
 all_aim : (i : Inst) (form : Form) (l : ℕ) (before : List ℕ) (back : Bool) (kinds : List NoteKind) → written i ≡ form
@@ -219,7 +229,8 @@ aimed_good all before kinds form l back (Some i) items e some well label f loop 
       placed = and_from (may_precede (labels items) (item.Aimed i (target.Label l))) (are_placed items)
           (aimed_precedes i form (labels items) l w.0 loop) h.placed;
       there = and_from (has all l) (list_all (is_there all) items) there h.there;
-      formed = and_from (has_target i && is_least i) (list_all is_formed items) (and_from (has_target i) (is_least i) aims least) h.formed;
+      formed = and_from (has_target i && is_least i) (list_all is_formed items) (and_from (has_target i)
+          (is_least i) aims least) h.formed;
       notes = and_from (list_all (λ k. program.may_aim before k i (target.Label l)) kinds) (notes_stand before [] items)
           (all_aim i form l before back kinds w.0 aims f may) h.notes;
     }
@@ -261,12 +272,14 @@ said_good lines names n nothing rest held before kinds at fits fresh aims well l
 said_good lines names n (note k v) rest held before kinds at fits fresh aims well label may h =
     note_good (labels (items_by names lines)) before kinds k v (items_by names rest) fits fresh h
 said_good lines names n (whole form) rest held before kinds at fits fresh aims well label may h =
-    whole_good (labels (items_by names lines)) before kinds form (made form.mnemonic form.operands) (items_by names rest) refl fits well label may h
+    whole_good (labels (items_by names lines)) before kinds form (made form.mnemonic form.operands)
+    (items_by names rest) refl fits well label may h
 said_good lines names n (aimed form a) rest held before kinds at fits fresh aims well label may h =
     let place = aimed_place (is_loop form.mnemonic) n (first_place lines a) aims in
     aimed_good (labels (items_by names lines)) before kinds form (number_in names a) (is_back n (first_place lines a))
     (made form.mnemonic form.operands) (items_by names rest) refl fits well label
-    (λ back. before_has lines names (n + 1) rest held before a place.0 at place.1 (back_place n place.0 (first_place lines a) place.1 back))
+    (λ back. before_has lines names (n + 1) rest held before a place.0 at place.1 (back_place n place.0
+    (first_place lines a) place.1 back))
     (λ loop. behind_has lines names (n + 1) rest held before a place.0 at place.1 (let l = place.2 loop in omega arith))
     (has_standing names lines a place.0 place.1) may h
 
@@ -283,7 +296,8 @@ fresh_label lines names n said rest held before kinds b at known good e =
     there = ap (λ o. if is_named b o then Some n else None) e ∙ ap (λ t. if t then Some n else None) (own_name b)
 
     found : (k : ℕ) → next_held held n said b ≡ Some k → has (labels (items_by names rest)) (number_in names b) ≡ false
-    found k f = absent names (first_place lines) rest kinds (n + 1) b k known (known_place lines (n + 1) rest (next_held held n said) b k at.known f)
+    found k f = absent names (first_place lines) rest kinds (n + 1) b k known (known_place lines (n + 1) rest
+        (next_held held n said) b k at.known f)
         (at.low b k f) good
 
     by : (o : Option ℕ) → held b ≡ o → has (labels (items_by names rest)) (number_in names b) ≡ false
@@ -296,10 +310,12 @@ empty_kinds : (kinds : List NoteKind) → AllByRecursion (λ k. false ≡ true) 
 empty_kinds [] h = refl
 empty_kinds (k ∷ kinds) h = h.0
 
-label_has : (names : List (List ℕ)) (o : Option (List ℕ)) (b : List ℕ) → AllByRecursion (Has names) (option_to_list o) → o ≡ Some b → Has names b
+label_has : (names : List (List ℕ)) (o : Option (List ℕ)) (b : List ℕ) → AllByRecursion (Has names) (option_to_list o) → o ≡ Some b
+    → Has names b
 label_has names o b h e = (subst (λ o. AllByRecursion (Has names) (option_to_list o)) e h).0
 
-rest_good : (lines : Lines) (names : List (List ℕ)) (rest : Lines) (n : ℕ) (held : List ℕ → Option ℕ) (before : List ℕ) (kinds : List NoteKind)
+rest_good : (lines : Lines) (names : List (List ℕ)) (rest : Lines) (n : ℕ) (held : List ℕ → Option ℕ) (before : List ℕ)
+    (kinds : List NoteKind)
     → At lines names n rest held before → AllGood (first_place lines) kinds n rest
     → AllByRecursion IsMade rest → AllByRecursion IsLabelled rest
     → AllByRecursion (Has names) (flat_map names_told rest) → AllByRecursion (λ k. may_stand (first_place lines) k n rest ≡ true) kinds
@@ -313,7 +329,8 @@ rest_good lines names (Some said ∷ rest) n held before kinds at good well labe
     let next = at_next lines names n said rest held before at in
     let all = labels (items_by names lines) in
     let told = all_front (Has names) (names_told (Some said)) (flat_map names_told rest) known in
-    let behind = rest_good lines names rest (n + 1) (next_held held n said) (next_before names said.label before) (kinds_said kinds said.saying) next
+    let behind = rest_good lines names rest (n + 1) (next_held held n said) (next_before names said.label before)
+    (kinds_said kinds said.saying) next
     good.1 well.1 label.1 (all_back (Has names) (names_told (Some said)) (flat_map names_told rest) known)
     (pending_next (first_place lines) n said.saying kinds rest line.stands may) in
     let front = option_to_list (label_item names said.label) in
@@ -322,7 +339,8 @@ rest_good lines names (Some said ∷ rest) n held before kinds at good well labe
     (label_good names all before kinds said.label (back ++ items_by names rest)
     (λ b e. fresh_label lines names n said rest held (next_before names said.label before) (kinds_said kinds said.saying) b next
     (label_has names said.label b (all_front (Has names) (option_to_list said.label) (name_aimed said.saying) told) e) good.1 e)
-    (said_good lines names n said.saying rest (next_held held n said) (next_before names said.label before) kinds next line.fits line.fresh line.aims
+    (said_good lines names n said.saying rest (next_held held n said)
+    (next_before names said.label before) kinds next line.fits line.fresh line.aims
     well.0 label.0 may behind))
 
 judged_good : (items : List Item) → Good (labels items) [] [] items → is_judged_whole items ≡ true
@@ -340,6 +358,7 @@ items_whole lines good well label =
       low = λ a k e. absurd (cc);
       seen = λ a k e. absurd (cc);
     } in
-    let judged = judged_good (items_of lines) (rest_good lines (names_of lines) lines 0 (λ a. None) [] [] start (all_good lines lines 0 refl good)
+    let judged = judged_good (items_of lines) (rest_good lines (names_of lines) lines 0 (λ a. None) [] [] start
+    (all_good lines lines 0 refl good)
     well label (all_have [] (flat_map names_told lines)) tt) in
     (judged_result (Ok true) (items_of lines) (sym judged)).0 refl

@@ -1,5 +1,6 @@
 -- Why a line of a text is bad, by itself or among the others, and which is the first bad line. Lines have numbers from 0 here.
-use Rattle.std.specs.Prelude.{◌≡◌, ℕ, ◌+◌, ◌<◌, ◌&&◌, ◌||◌, not, nat_le, Bool, true, false, if◌then◌else◌, List, length, take, drop, slice_get}
+use Rattle.std.specs.Prelude.{◌≡◌, ℕ, ◌+◌, ◌<◌, ◌&&◌, ◌||◌, not, nat_le, Bool, true, false, if◌then◌else◌, List, length, take, drop}
+use Rattle.std.specs.Prelude.{slice_get}
 use Rattle.std.specs.Prelude.{Option, Some, None, option_and_then}
 use Rattle.isa.specs.declared.note.NoteKind.{NoteKind}
 use Rattle.asmword.specs.declared.mnemonic.Mnemonic.{Mnemonic}

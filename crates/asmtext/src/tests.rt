@@ -1,11 +1,20 @@
 use crate::*;
+use isa::AsmProgram;
 use prunum::Memory;
 use std::alloc::Global;
 use std::fmt::Write;
 use std::test::*;
 
+/// Reads a text, as one that is short enough.
+fn read(alloc: Global, text: &[u8]) -> Result<AsmProgram, AsmFault> {
+    if text.len() >= 1 << 31 {
+        return Err(AsmFault::Memory);
+    }
+    read_asm(alloc, text)
+}
+
 fn fault(rt: &HostRuntime, text: &[u8]) -> Option<(u32, AsmCause)> {
-    match read_asm(rt.alloc(), text) {
+    match read(rt.alloc(), text) {
         Err(AsmFault::Line { line, cause }) => Some((line, cause)),
         _ => None,
     }
@@ -109,17 +118,17 @@ fn what_is_read_is_printed(rt: HostRuntime) -> Result<(), Fail> {
         ),
         (b"LOOP b, 256\nNOT R1, R2\nb: a: JMP b", b""),
         (
-            b"  LDI   R2, 8  ; pulses to go\npulse:  SET R30, R30, 0 ; high\n  CLR R30, R30, 0\n\tSUB R2, R2, 1\n  .note turns 8\n  QBNE pulse, R2, 0\n  HALT\n",
-            b"LDI R2, 8\nL1:\nSET R30, R30, 0\nCLR R30, R30, 0\nSUB R2, R2, 1\n.note turns 8\nQBNE L1, R2, 0\nHALT\n",
+            b"  LDI   R2, 8  ; pulses to go\npulse:  SET R30, R30, 0 ; high\n  CLR R30, R30, 0\n\tSUB R2, R2, 1\n.note turns 8\n QBNE pulse, R2, 0\n",
+            b"LDI R2, 8\nL1:\nSET R30, R30, 0\nCLR R30, R30, 0\nSUB R2, R2, 1\n.note turns 8\nQBNE L1, R2, 0\n",
         ),
         (b"L1:; a label\nL2:\nQBA L2", b"L1:\nL2:\nQBA L2\n"),
         (b"", b""),
     ] {
-        match read_asm(rt.alloc(), text) {
+        match read(rt.alloc(), text) {
             Ok(program) => {
                 let printed = print_asm(rt.alloc(), &program)?;
                 assert_eq!(rt; printed.as_slice(), wanted);
-                let again = print_asm(rt.alloc(), &read_asm(rt.alloc(), &printed)?)?;
+                let again = print_asm(rt.alloc(), &read(rt.alloc(), &printed)?)?;
                 assert_eq!(rt; again.as_slice(), wanted);
             }
             Err(_) => assert!(rt; wanted.is_empty(), "{text:?}"),
@@ -155,7 +164,7 @@ fn many_lines_are_read_at_once(rt: HostRuntime) -> Result<(), Fail> {
         writeln!(text, "a{number}: JMP a{number}")?;
     }
     let text = text.into_bytes();
-    let program = read_asm(rt.alloc(), &text)?;
+    let program = read(rt.alloc(), &text)?;
     assert_eq!(rt; program.items().len(), 20_000);
     Ok(())
 }

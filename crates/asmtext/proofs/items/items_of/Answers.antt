@@ -26,7 +26,8 @@ loop-line-preserved c =
     let rest = flat_map f (all_told (drop (i + 1) lines)) in
     record {
       items = ap (λ items. items ++ rest) c.in_ok-push_line.ensures.items ∙ append_assoc c.loop-line.items.items (f line) rest
-          ∙ sym (ap (λ ls. c.loop-line.items.items ++ flat_map f ls) (told_drop lines i c.loop-line-test.true)) ∙ c.loop-line.invariant.items;
+          ∙ sym (ap (λ ls. c.loop-line.items.items ++ flat_map f ls) (told_drop lines i c.loop-line-test.true))
+          ∙ c.loop-line.invariant.items;
       made = λ behind. c.loop-line.invariant.made
           (subst (AllByRecursion IsMade) (sym (told_drop lines i c.loop-line-test.true)) (c.in_ok-push_line.ensures.made, behind));
     }
@@ -38,7 +39,8 @@ returns c =
     let items = c.loop-line.items.items in
     record {
       items = sym (append-nil items)
-          ∙ sym (at_drop_all (λ ls. items ++ flat_map (line_items (names_held c.args.names.now)) (all_told ls)) lines i c.loop-line-test.false)
+          ∙ sym (at_drop_all (λ ls. items ++ flat_map (line_items (names_held c.args.names.now))
+          (all_told ls)) lines i c.loop-line-test.false)
           ∙ c.loop-line.invariant.items;
       made = c.loop-line.invariant.made
           (subst (AllByRecursion IsMade) (sym (at_drop_all all_told lines i c.loop-line-test.false)) tt);

@@ -8,6 +8,7 @@ use Rattle.asmtext.proofs.items.items_of.Given as goal
 
 abbrev pub invariant-loop-line : goal.invariant-loop-line
 invariant-loop-line l = record {
-  items : l.items.items ++ flat_map (line_items (names_held l.fn.names)) (all_told (drop l.line-index l.fn.lines)) ≡ items_of (all_told l.fn.lines);
+  items : l.items.items ++ flat_map (line_items (names_held l.fn.names)) (all_told (drop l.line-index l.fn.lines)) ≡ items_of
+      (all_told l.fn.lines);
   made : AllByRecursion IsMade (all_told (drop l.line-index l.fn.lines)) → AllByRecursion IsMade (all_told l.fn.lines);
 }

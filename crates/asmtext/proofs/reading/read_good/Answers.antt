@@ -16,7 +16,8 @@ items_of-requires-clause-few c = held_few c.args.lines.now (names_held c.args.na
 pub long_loop-requires : goal.long_loop-requires
 long_loop-requires c =
     subst IsWhole (sym (c.new-program.ensures ∙ c.in_ok-items_of.ensures.items))
-    (items_whole (all_told c.args.lines.now) (good_told c.args.lines.now c.requires.good) c.in_ok-items_of.ensures.made c.requires.labelled)
+    (items_whole (all_told c.args.lines.now)
+    (good_told c.args.lines.now c.requires.good) c.in_ok-items_of.ensures.made c.requires.labelled)
 
 pub line_of_item-requires-clause-within : goal.line_of_item-requires-clause-within
 line_of_item-requires-clause-within c =
@@ -40,4 +41,5 @@ returns-in-Some-clause-fault c =
 pub returns-in-None-clause-whole : goal.returns-in-None-clause-whole
 returns-in-None-clause-whole c =
     subst IsWhole (sym (c.new-program.ensures ∙ c.in_ok-items_of.ensures.items))
-    (items_whole (all_told c.args.lines.now) (good_told c.args.lines.now c.requires.good) c.in_ok-items_of.ensures.made c.requires.labelled)
+    (items_whole (all_told c.args.lines.now)
+    (good_told c.args.lines.now c.requires.good) c.in_ok-items_of.ensures.made c.requires.labelled)
