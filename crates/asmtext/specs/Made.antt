@@ -1,5 +1,5 @@
--- What holds of each line that was read: what is made of its word is written so, and it has a label exactly where it is told to go
-    to one.
+-- What holds of each line that was read: what is made of its word is written so, and its operands have a label exactly where it is
+-- told to go to one.
 use Rattle.std.specs.Prelude.{◌≡◌, Bool, true, false, IsTrue, Option, Some, None}
 use Rattle.isa.specs.declared.inst.Inst.{Inst}
 use Rattle.asmword.specs.declared.form.Form.{Form}

@@ -118,7 +118,7 @@ fn what_is_read_is_printed(rt: HostRuntime) -> Result<(), Fail> {
         ),
         (b"LOOP b, 256\nNOT R1, R2\nb: a: JMP b", b""),
         (
-            b"  LDI   R2, 8  ; pulses to go\npulse:  SET R30, R30, 0 ; high\n  CLR R30, R30, 0\n\tSUB R2, R2, 1\n.note turns 8\n QBNE pulse, R2, 0\n",
+            b" LDI R2, 8 ; pulses\npulse: SET R30, R30, 0\n CLR R30, R30, 0\n\tSUB R2, R2, 1\n.note turns 8\n QBNE pulse, R2, 0\n",
             b"LDI R2, 8\nL1:\nSET R30, R30, 0\nCLR R30, R30, 0\nSUB R2, R2, 1\n.note turns 8\nQBNE L1, R2, 0\n",
         ),
         (b"L1:; a label\nL2:\nQBA L2", b"L1:\nL2:\nQBA L2\n"),
