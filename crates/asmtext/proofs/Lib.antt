@@ -1,0 +1,11 @@
+pub mod JudgeLemmas
+pub mod LabelledLemmas
+pub mod LineLemmas
+pub mod NameLemmas
+pub mod NumberLemmas
+pub mod OnceLemmas
+pub mod PlaceLemmas
+pub mod PrintLemmas
+pub mod ReadLemmas
+pub mod WholeLemmas
+pub mod WordLemmas
