@@ -212,8 +212,8 @@ module _ (r : Fixed) (c : Call) (call : IsCall r c) (f : Free) (k a b : Code) (t
     chosen false s m at = second-does s m at
 
     tested-same : (y : Bool) (s : State) (m : Counted) → Related r c (record (past x k nodes (hand + 312)) {
-          place = if jumps false y then standing_at c.ops f.label else behind-test;
-        }) s m → Related r c (tested y) s m
+      place = if jumps false y then standing_at c.ops f.label else behind-test;
+    }) s m → Related r c (tested y) s m
     tested-same true s m at = at
     tested-same false s m at = at
 

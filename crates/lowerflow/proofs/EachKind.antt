@@ -186,36 +186,36 @@ module _ (r : Fixed) (c : Call) (call : IsCall r c) where
 
     module _ (a : Access) (m : Span) (x : Code) (u : Meant) (run : Run Datum) (nodes : ℕ) (first : Evaluates r c f x IsDatum u run nodes 310)
       where
-      assign-home : (k : ℕ) (q : Placed) (o : Option Home) → slice_get c.own k ≡ o
-          → (laid : Laid) × (slice_get d.locals k ≡ Some laid) × (q ≡ Leaves laid) → IsAccess a q u
-          → Meets (λ code. Evaluates r c f code IsValue u
-          (node (both (node (with_state (λ s. give (whole (s.locals + k))))) run (assign span a))) (nodes + 1 + 1) node_back) (assign_home x o)
-      assign-home k q (Some (InRegister p t)) home typed read =
-          let same : t ≡ u = local-type d declared k p t u q a home typed read in
-          node-of r c f (assign_code p x) u
-          (both (node (with_state (λ s. give (whole (s.locals + k))))) run (assign span a)) (nodes + 1) 300
-          (assign-of r c call k p u (home ∙ ap (λ t. Some (InRegister p t)) same) span a f x run nodes 310 300 first (omega arith))
-      assign-home k q (Some (InMemory at laid)) home typed read = tt
-      assign-home k q (Some Outside) home typed read = tt
-      assign-home k q None home typed read = tt
+        assign-home : (k : ℕ) (q : Placed) (o : Option Home) → slice_get c.own k ≡ o
+            → (laid : Laid) × (slice_get d.locals k ≡ Some laid) × (q ≡ Leaves laid) → IsAccess a q u
+            → Meets (λ code. Evaluates r c f code IsValue u
+            (node (both (node (with_state (λ s. give (whole (s.locals + k))))) run (assign span a))) (nodes + 1 + 1) node_back) (assign_home x o)
+        assign-home k q (Some (InRegister p t)) home typed read =
+            let same : t ≡ u = local-type d declared k p t u q a home typed read in
+            node-of r c f (assign_code p x) u
+            (both (node (with_state (λ s. give (whole (s.locals + k))))) run (assign span a)) (nodes + 1) 300
+            (assign-of r c call k p u (home ∙ ap (λ t. Some (InRegister p t)) same) span a f x run nodes 310 300 first (omega arith))
+        assign-home k q (Some (InMemory at laid)) home typed read = tt
+        assign-home k q (Some Outside) home typed read = tt
+        assign-home k q None home typed read = tt
 
-      pub assign-to : (p : place.PlaceKind) (t : Option Meant) (q : Placed) → t ≡ Some u → IsPlace d p q → IsAccess a q u
-          → Meets (λ code. Values r c f code t (node (both (node (place_kind calls m p)) run (assign span a)))
-          (place_nodes p + nodes + 1 + 1) node_back) (store_code c.own x p)
-      assign-to (place.Local l) t q is typed read =
-          subst (λ t. Meets (λ code. Values r c f code t (node (both (node (place_kind calls m (place.Local l))) run (assign span a)))
-          (0 + nodes + 1 + 1) node_back) (store_code c.own x (place.Local l))) (sym is)
-          (let e : 0 + nodes + 1 + 1 ≡ nodes + 1 + 1 = omega arith in
-          subst (λ n. Meets (λ code. Evaluates r c f code IsValue u (node (both (node (place_kind calls m (place.Local l))) run
-          (assign span a))) n node_back) (store_code c.own x (place.Local l))) (sym e)
-          (assign-home l.0 q (slice_get c.own l.0) refl typed read))
-      assign-to (place.Global o) t q is typed read = tt
-      assign-to (place.Volatile address) t q is typed read = tt
-      assign-to (place.Register reg) t q is typed read = tt
-      assign-to (place.Dereference' _ _ v) t q is typed read = tt
-      assign-to (place.Subscript' _ _ _ _ _ _ _ _ _) t q is typed read = tt
-      assign-to (place.Member' _ _ _ _) t q is typed read = tt
-      assign-to (place.Arrow' _ _ _ _) t q is typed read = tt
+        pub assign-to : (p : place.PlaceKind) (t : Option Meant) (q : Placed) → t ≡ Some u → IsPlace d p q → IsAccess a q u
+            → Meets (λ code. Values r c f code t (node (both (node (place_kind calls m p)) run (assign span a)))
+            (place_nodes p + nodes + 1 + 1) node_back) (store_code c.own x p)
+        assign-to (place.Local l) t q is typed read =
+            subst (λ t. Meets (λ code. Values r c f code t (node (both (node (place_kind calls m (place.Local l))) run (assign span a)))
+            (0 + nodes + 1 + 1) node_back) (store_code c.own x (place.Local l))) (sym is)
+            (let e : 0 + nodes + 1 + 1 ≡ nodes + 1 + 1 = omega arith in
+            subst (λ n. Meets (λ code. Evaluates r c f code IsValue u (node (both (node (place_kind calls m (place.Local l))) run
+            (assign span a))) n node_back) (store_code c.own x (place.Local l))) (sym e)
+            (assign-home l.0 q (slice_get c.own l.0) refl typed read))
+        assign-to (place.Global o) t q is typed read = tt
+        assign-to (place.Volatile address) t q is typed read = tt
+        assign-to (place.Register reg) t q is typed read = tt
+        assign-to (place.Dereference' _ _ v) t q is typed read = tt
+        assign-to (place.Subscript' _ _ _ _ _ _ _ _ _) t q is typed read = tt
+        assign-to (place.Member' _ _ _ _) t q is typed read = tt
+        assign-to (place.Arrow' _ _ _ _) t q is typed read = tt
 
   -- ---- `?:`
 

@@ -64,7 +64,7 @@ jumps false truth = not truth
 -- Code for a condition, which goes to a label where the truth is the one that it jumps at, and else is behind itself.
 pub record Tests (r : Fixed) (c : Call) (f : Free) (code : Code) (sense : Bool) (label : ℕ) (run : Run Bool) (nodes back : ℕ) : Type 0
   where
-  pub does : (x : Point) (hand : ℕ) (s : State) (m : Counted) → IsIn c f code x.place → IsReady r c f nodes hand x → Related r c x s m
-      → Does r (λ truth. Related r c (record (past x code nodes (hand + back)) {
-        place = if jumps sense truth then standing_at c.ops label else x.place + length code.ops;
-      })) (run r.budget s) m
+    pub does : (x : Point) (hand : ℕ) (s : State) (m : Counted) → IsIn c f code x.place → IsReady r c f nodes hand x → Related r c x s m
+        → Does r (λ truth. Related r c (record (past x code nodes (hand + back)) {
+          place = if jumps sense truth then standing_at c.ops label else x.place + length code.ops;
+        })) (run r.budget s) m
