@@ -20,7 +20,7 @@ use Rattle.subreg.specs.Allocation.{LivesWell, AreApart}
 use Rattle.subreg.specs.declared.home.Home.{Home}
 use Rattle.subreg.specs.declared.home.Home.TheVariants as home
 use Rattle.fieldcode.specs.Homes.{HomesHold}
-use Rattle.fieldcode.specs.Works.{Work, is_direct, unary_work, widen_work}
+use Rattle.fieldcode.specs.Works.{Work, is_direct, unary_work, copy_work, widen_work}
 use Rattle.fieldcode.specs.Values.{Place, Right, InPlace, Constant, one_code, two_code, constant_code}
 use Rattle.fieldcode.specs.Effects.{HasRoom, IsPlace, IsRight, HasValue, HasRight, IsPut, Performs}
 
@@ -101,6 +101,7 @@ each_direct f =
 abbrev pub other_samples : List Sample
 other_samples =
     of (constant_code 0 slot 65536) (op.Constant r 65536)
+    ∷ of (one_code 0 copy_work slot slot) (op.Copy r r)
     ∷ of (one_code 0 (unary_work unary.Negate) slot slot) (op.Unary unary.Negate r r)
     ∷ of (one_code 0 (unary_work unary.Complement) slot slot) (op.Unary unary.Complement r r)
     ∷ of (one_code 0 (unary_work unary.Not) slot slot) (op.Unary unary.Not r r)

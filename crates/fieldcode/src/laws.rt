@@ -20,7 +20,7 @@ pub fn value_laws()
 {}
 
 /// With every register in a slot they are at most the words that operations are counted with: samples of each operator with a register, a
-/// small and a great number on its right, and of the others but the copy.
+/// small and a great number on its right, and of the others.
 #[tactic(auto, using(crate::proofs::Public::word_rules))]
 pub fn word_laws()
     ensures slots { IsTrue (list_all is_small (each_direct with_slot)) }

@@ -26,9 +26,9 @@ use Rattle.lowerflow.proofs.Ways.{does-here, does-more, does-then, ready-behind,
 -- ---- values
 
 module _ (r : Fixed) (c : Call) (call : IsCall r c) (f : Free) (k a b : Code) (t : Meant) (cond : Run Bool) (run second : Run Datum)
-    (nodes n1 n2 : ℕ) (test : Tests r c (reserve 2 f) k false f.label cond nodes 312)
-    (first : Evaluates r c (behind (reserve 2 f) k) a IsDatum t run n1 310)
-    (then' : Evaluates r c (behind (behind (reserve 2 f) k) a) b IsDatum t second n2 310) where
+    (nodes n1 n2 : ℕ) (test : Tests r c (reserve 2 f) k false f.label cond nodes 311)
+    (first : Evaluates r c (behind (reserve 2 f) k) a IsDatum t run n1 308)
+    (then' : Evaluates r c (behind (behind (reserve 2 f) k) a) b IsDatum t second n2 308) where
   abbrev code : Code
   code = conditional_code (meant_width t) f k a b
 
@@ -117,7 +117,7 @@ module _ (r : Fixed) (c : Call) (call : IsCall r c) (f : Free) (k a b : Code) (t
         ))
 
     -- the value of the first arm is in its register
-    first-done : (e d : Datum) (h owed : ℕ) → e ≡ d → hand + 290 ≤ h → owed ≤ x.owed + total → (s : State) (m : Counted)
+    first-done : (e d : Datum) (h owed : ℕ) → e ≡ d → hand + 292 ≤ h → owed ≤ x.owed + total → (s : State) (m : Counted)
         → Related r c (record x {
           place = behind-first;
           kept = record { register = a.result; meant = t; datum = d } ∷ x.kept;
@@ -140,7 +140,7 @@ module _ (r : Fixed) (c : Call) (call : IsCall r c) (f : Free) (k a b : Code) (t
         (λ m' next. at-last d (standing_at c.ops (f.label + 1)) (hand + 280) owed
         (label-place r c call (label (f.label + 1)) (behind-second + 1) (operation last)) (omega arith) less s m' next)))
 
-    second-done : (e d : Datum) (h owed : ℕ) → e ≡ d → hand + 290 ≤ h → owed ≤ x.owed + total → (s : State) (m : Counted)
+    second-done : (e d : Datum) (h owed : ℕ) → e ≡ d → hand + 292 ≤ h → owed ≤ x.owed + total → (s : State) (m : Counted)
         → Related r c (record x {
           place = behind-second;
           kept = record { register = b.result; meant = t; datum = d } ∷ x.kept;
@@ -181,37 +181,37 @@ module _ (r : Fixed) (c : Call) (call : IsCall r c) (f : Free) (k a b : Code) (t
     }
 
     abbrev tested : Bool → Point
-    tested y = record (past x k nodes (hand + 312)) { place = if y then behind-test else standing_at c.ops f.label }
+    tested y = record (past x k nodes (hand + 311)) { place = if y then behind-test else standing_at c.ops f.label }
 
     first-does : (s : State) (m : Counted) → Related r c (tested true) s m → Does r D (then_with run valued r.budget s) m
     first-does s m at =
-        does-then r (Given r c a IsDatum t n1 310 (tested true) (hand + 248)) D (run r.budget s) (λ e. valued e r.budget) m
-        (first.does (tested true) (hand + 248) s m first-in
-        (ready-behind r c f (behind (reserve 2 f) k) total n1 hand (hand + 248) x (tested true) ready (omega arith) refl (omega arith)
+        does-then r (Given r c a IsDatum t n1 308 (tested true) (hand + 247)) D (run r.budget s) (λ e. valued e r.budget) m
+        (first.does (tested true) (hand + 247) s m first-in
+        (ready-behind r c f (behind (reserve 2 f) k) total n1 hand (hand + 247) x (tested true) ready (omega arith) refl (omega arith)
         (omega arith)) at)
-        (λ e s m on. first-done e on.0 (hand + 248 + 310) (x.owed + nodes + n1) on.1 (omega arith) (omega arith) s m on.2)
+        (λ e s m on. first-done e on.0 (hand + 247 + 308) (x.owed + nodes + n1) on.1 (omega arith) (omega arith) s m on.2)
 
     second-does : (s : State) (m : Counted) → Related r c (tested false) s m → Does r D (then_with second valued r.budget s) m
     second-does s m at =
-        let y : Point = record (past x k nodes (hand + 312)) { place = behind-first + 1 + 1 } in
-        let z : Point = record (past x k nodes (hand + 312)) { place = second-start } in
+        let y : Point = record (past x k nodes (hand + 311)) { place = behind-first + 1 + 1 } in
+        let z : Point = record (past x k nodes (hand + 311)) { place = second-start } in
         let here : Related r c y s m =
         adjust r c (tested false) y s m (label-place r c call (label f.label) (behind-first + 1 + 1) (operation second-tail)) (omega arith)
         (omega arith) (omega arith) at at.kept in
         go-label r c call D (then_with second valued r.budget s) y s m (few (x.owed + nodes) (omega arith)) here (label f.label)
         (operation second-tail)
-        (λ m' on. does-then r (Given r c b IsDatum t n2 310 z (hand + 248)) D (second r.budget s) (λ e. valued e r.budget) m'
-        (then'.does z (hand + 248) s m' second-in
-        (ready-behind r c f (behind (behind (reserve 2 f) k) a) total n2 hand (hand + 248) x z ready (omega arith) refl (omega arith)
+        (λ m' on. does-then r (Given r c b IsDatum t n2 308 z (hand + 247)) D (second r.budget s) (λ e. valued e r.budget) m'
+        (then'.does z (hand + 247) s m' second-in
+        (ready-behind r c f (behind (behind (reserve 2 f) k) a) total n2 hand (hand + 247) x z ready (omega arith) refl (omega arith)
         (omega arith)) on)
-        (λ e s m on. second-done e on.0 (hand + 248 + 310) (x.owed + nodes + n2) on.1 (omega arith) (omega arith) s m on.2))
+        (λ e s m on. second-done e on.0 (hand + 247 + 308) (x.owed + nodes + n2) on.1 (omega arith) (omega arith) s m on.2))
 
     chosen : (y : Bool) (s : State) (m : Counted) → Related r c (tested y) s m
         → Does r D ((if y then then_with run valued else then_with second valued) r.budget s) m
     chosen true s m at = first-does s m at
     chosen false s m at = second-does s m at
 
-    tested-same : (y : Bool) (s : State) (m : Counted) → Related r c (record (past x k nodes (hand + 312)) {
+    tested-same : (y : Bool) (s : State) (m : Counted) → Related r c (record (past x k nodes (hand + 311)) {
       place = if jumps false y then standing_at c.ops f.label else behind-test;
     }) s m → Related r c (tested y) s m
     tested-same true s m at = at
@@ -224,7 +224,7 @@ module _ (r : Fixed) (c : Call) (call : IsCall r c) (f : Free) (k a b : Code) (t
     does = λ x hand s m stands ready related.
         does-then r (λ y. Related r c (tested x hand stands ready y)) (D x hand stands ready) (cond r.budget s)
         (λ y. (if y then then_with run valued else then_with second valued) r.budget) m
-        (does-more r (λ y. Related r c (record (past x k nodes (hand + 312)) {
+        (does-more r (λ y. Related r c (record (past x k nodes (hand + 311)) {
           place = if jumps false y then standing_at c.ops f.label else x.place + length k.ops;
         })) (λ y. Related r c (tested x hand stands ready y)) (cond r.budget s) m
         (test.does x hand s m (test-in x hand stands ready)
@@ -236,7 +236,7 @@ module _ (r : Fixed) (c : Call) (call : IsCall r c) (f : Free) (k a b : Code) (t
 -- ---- what is done
 
 module _ (r : Fixed) (c : Call) (call : IsCall r c) (e : Exits) {A : Type 0} (flow : A → Flow) (f : Free) (k a b : Code) (cond : Run Bool)
-    (run second : Run A) (nodes n1 n2 : ℕ) (test : Tests r c (reserve 2 f) k false f.label cond nodes 312)
+    (run second : Run A) (nodes n1 n2 : ℕ) (test : Tests r c (reserve 2 f) k false f.label cond nodes 311)
     (first : Goes r c e (behind (reserve 2 f) k) a flow run n1 node_back)
     (then' : Goes r c e (behind (behind (reserve 2 f) k) a) b flow second n2 node_back) where
   abbrev either : Code
@@ -338,30 +338,30 @@ module _ (r : Fixed) (c : Call) (call : IsCall r c) (e : Exits) {A : Type 0} (fl
     }
 
     abbrev decided : Bool → Point
-    decided y = record (past x k nodes (hand + 312)) {
+    decided y = record (past x k nodes (hand + 311)) {
       place = if jumps false y then standing_at c.ops f.label else at-first;
     }
 
     taken : (y : Bool) (s : State) (m : Counted) → Related r c (decided y) s m → Does r E ((if y then run else second) r.budget s) m
     taken true s m at =
-        does-more r (λ i. Ended r c e (past (decided true) a n1 (hand + 248 + node_back)) (flow i)) E (run r.budget s) m
-        (first.does (decided true) (hand + 248) s m first-place
-        (ready-behind r c f (behind (reserve 2 f) k) steps n1 hand (hand + 248) x (decided true) ready (omega arith) refl (omega arith)
+        does-more r (λ i. Ended r c e (past (decided true) a n1 (hand + 247 + node_back)) (flow i)) E (run r.budget s) m
+        (first.does (decided true) (hand + 247) s m first-place
+        (ready-behind r c f (behind (reserve 2 f) k) steps n1 hand (hand + 247) x (decided true) ready (omega arith) refl (omega arith)
         (omega arith)) at)
-        (λ i s m on. first-ends i (hand + 248 + node_back) (x.owed + nodes + n1) (omega arith) (omega arith) s m on)
+        (λ i s m on. first-ends i (hand + 247 + node_back) (x.owed + nodes + n1) (omega arith) (omega arith) s m on)
     taken false s m at =
-        let y : Point = record (past x k nodes (hand + 312)) { place = at-jump + 1 } in
-        let w : Point = record (past x k nodes (hand + 312)) { place = at-jump + 1 + 1 } in
+        let y : Point = record (past x k nodes (hand + 311)) { place = at-jump + 1 } in
+        let w : Point = record (past x k nodes (hand + 311)) { place = at-jump + 1 + 1 } in
         let here : Related r c y s m =
         adjust r c (decided false) y s m (label-place r c call (label f.label) (at-jump + 1) (operation (behind-op jump-on))) (omega arith)
         (omega arith) (omega arith) at at.kept in
         go-label r c call E (second r.budget s) y s m (enough-owed (x.owed + nodes) (omega arith)) here (label f.label)
         (operation (behind-op jump-on))
-        (λ m' on. does-more r (λ i. Ended r c e (past w b n2 (hand + 248 + node_back)) (flow i)) E (second r.budget s) m'
-        (then'.does w (hand + 248) s m' second-place
-        (ready-behind r c f (behind (behind (reserve 2 f) k) a) steps n2 hand (hand + 248) x w ready (omega arith) refl (omega arith)
+        (λ m' on. does-more r (λ i. Ended r c e (past w b n2 (hand + 247 + node_back)) (flow i)) E (second r.budget s) m'
+        (then'.does w (hand + 247) s m' second-place
+        (ready-behind r c f (behind (behind (reserve 2 f) k) a) steps n2 hand (hand + 247) x w ready (omega arith) refl (omega arith)
         (omega arith)) on)
-        (λ i s m on. second-ends i (hand + 248 + node_back) (x.owed + nodes + n2) (omega arith) (omega arith) s m on))
+        (λ i s m on. second-ends i (hand + 247 + node_back) (x.owed + nodes + n2) (omega arith) (omega arith) s m on))
 
   pub either-of : Goes r c e f either flow (then_with cond (λ y. if y then run else second)) steps 300
   either-of = record {
@@ -376,7 +376,7 @@ module _ (r : Fixed) (c : Call) (call : IsCall r c) (e : Exits) {A : Type 0} (fl
 -- ---- what is done or not
 
 module _ (r : Fixed) (c : Call) (call : IsCall r c) (e : Exits) (f : Free) (k a : Code) (cond : Run Bool) (run : Run Flow) (nodes n1 : ℕ)
-    (test : Tests r c (reserve 1 f) k false f.label cond nodes 312)
+    (test : Tests r c (reserve 1 f) k false f.label cond nodes 311)
     (first : Goes r c e (behind (reserve 1 f) k) a itself run n1 node_back) where
   abbrev done : Code
   done = if_code f k a
@@ -411,17 +411,17 @@ module _ (r : Fixed) (c : Call) (call : IsCall r c) (e : Exits) (f : Free) (k a 
         (omega arith) on on.kept)))
 
     abbrev parted : Bool → Point
-    parted y = record (past x k nodes (hand + 312)) {
+    parted y = record (past x k nodes (hand + 311)) {
       place = if jumps false y then standing_at c.ops f.label else x.place + length k.ops;
     }
 
-    ends : (i : Flow) (s : State) (m : Counted) → Ended r c e (past (parted true) a n1 (hand + 248 + node_back)) i s m
+    ends : (i : Flow) (s : State) (m : Counted) → Ended r c e (past (parted true) a n1 (hand + 247 + node_back)) i s m
         → Does r G (Done i s) m
     ends i s m at =
-        elim (ended-case r c e (past (parted true) a n1 (hand + 248 + node_back)) behind-all.place behind-all.hand behind-all.owed
+        elim (ended-case r c e (past (parted true) a n1 (hand + 247 + node_back)) behind-all.place behind-all.hand behind-all.owed
         behind-all.steps (omega arith) (omega arith) (omega arith) i s m at) [
           | inl next ↦
-              come i at-label (hand + 248 + node_back) (x.owed + nodes + n1) next.0 refl (omega arith) (omega arith) s m next.1
+              come i at-label (hand + 247 + node_back) (x.owed + nodes + n1) next.0 refl (omega arith) (omega arith) s m next.1
           | inr out ↦
               does-here r G i s m out
         ]
@@ -435,12 +435,12 @@ module _ (r : Fixed) (c : Call) (call : IsCall r c) (e : Exits) (f : Free) (k a 
 
     goes : (y : Bool) (s : State) (m : Counted) → Related r c (parted y) s m → Does r G ((if y then run else give Next) r.budget s) m
     goes true s m at =
-        does-more r (Ended r c e (past (parted true) a n1 (hand + 248 + node_back))) G (run r.budget s) m
-        (first.does (parted true) (hand + 248) s m first-stands
-        (ready-behind r c f (behind (reserve 1 f) k) (nodes + n1) n1 hand (hand + 248) x (parted true) ready (omega arith) refl (omega arith)
+        does-more r (Ended r c e (past (parted true) a n1 (hand + 247 + node_back))) G (run r.budget s) m
+        (first.does (parted true) (hand + 247) s m first-stands
+        (ready-behind r c f (behind (reserve 1 f) k) (nodes + n1) n1 hand (hand + 247) x (parted true) ready (omega arith) refl (omega arith)
         (omega arith)) at) ends
     goes false s m at =
-        come Next (standing_at c.ops f.label) (hand + 312) (x.owed + nodes) refl
+        come Next (standing_at c.ops f.label) (hand + 311) (x.owed + nodes) refl
         (label-place r c call (label f.label) at-label (operation on-label)) (omega arith) (omega arith) s m at
 
   pub if-of : Goes r c e f done itself (then_with cond (λ y. if y then run else give Next)) (nodes + n1) 300

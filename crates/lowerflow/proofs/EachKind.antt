@@ -78,15 +78,15 @@ module _ (r : Fixed) (c : Call) (call : IsCall r c) where
 
   pub converted-of : (f : Free) (a : Code) (k : Conversion) (t : Option Meant) (u : Meant) (run : Run Valued) (nodes : ℕ)
       → IsConverted k t u → Values r c f a t run nodes node_back
-      → Evaluates r c f (conversion_code k f a) IsDatum u (operand k run) nodes 310
+      → Evaluates r c f (conversion_code k f a) IsDatum u (operand k run) nodes 308
   converted-of f a k t u run nodes is first =
-      operand-of r c call k f a is.0 u run nodes 310 is.2 (is-typed r c f a t is.0 run nodes node_back is.1 first)
+      operand-of r c call k f a is.0 u run nodes 308 is.2 (is-typed r c f a t is.0 run nodes node_back is.1 first)
 
   pub number-of-operand : (f : Free) (a : Code) (k : Conversion) (t : Option Meant) (sign : Sign) (run : Run Valued) (nodes : ℕ)
       → IsConverted k t (word sign) → Values r c f a t run nodes node_back
-      → Evaluates r c f (conversion_code k f a) IsNumber (word sign) (number k run) nodes 310
+      → Evaluates r c f (conversion_code k f a) IsNumber (word sign) (number k run) nodes 308
   number-of-operand f a k t sign run nodes is first =
-      number-of r c f (conversion_code k f a) _ (operand k run) nodes 310 (converted-of f a k t (word sign) run nodes is first)
+      number-of r c f (conversion_code k f a) _ (operand k run) nodes 308 (converted-of f a k t (word sign) run nodes is first)
 
   -- ---- casts and operators with one operand
 
@@ -100,24 +100,24 @@ module _ (r : Fixed) (c : Call) (call : IsCall r c) where
       → IsConverted k t u → Values r c f a t run nodes node_back
       → Evaluates r c f (conversion_code k f a) IsValue u (node (then_with (operand k run) valued)) (nodes + 1) node_back
   cast-of f a k t u run nodes is first =
-      node-of r c f (conversion_code k f a) u (then_with (operand k run) valued) nodes 310
-      (valued-of f (conversion_code k f a) u (operand k run) nodes 310 (converted-of f a k t u run nodes is first))
+      node-of r c f (conversion_code k f a) u (then_with (operand k run) valued) nodes 308
+      (valued-of f (conversion_code k f a) u (operand k run) nodes 308 (converted-of f a k t u run nodes is first))
 
   operator-of : (o : UnaryOperator) (f : Free) (a : Code) (sign : Sign) (run : Run ℕ) (nodes : ℕ)
-      → Evaluates r c f a IsNumber (word sign) run nodes 310
-      → Evaluates r c f (operator_code o f a) IsValue (word sign) (then_with run (λ n. number_value (unary o n))) nodes 301
+      → Evaluates r c f a IsNumber (word sign) run nodes 308
+      → Evaluates r c f (operator_code o f a) IsValue (word sign) (then_with run (λ n. number_value (unary o n))) nodes 297
   operator-of Plus f a sign run nodes first =
-      less-left r c f a (word sign) (then_with run (λ n. number_value (unary Plus n))) nodes 310 301
-      (plus-of r c f a sign sign run nodes 310 first) (omega arith)
-  operator-of Minus f a sign run nodes first = minus-of r c call f a sign sign run nodes 301 first
-  operator-of Complement f a sign run nodes first = complement-of r c call f a sign sign run nodes 301 first
+      less-left r c f a (word sign) (then_with run (λ n. number_value (unary Plus n))) nodes 308 297
+      (plus-of r c f a sign sign run nodes 308 first) (omega arith)
+  operator-of Minus f a sign run nodes first = minus-of r c call f a sign sign run nodes 297 first
+  operator-of Complement f a sign run nodes first = complement-of r c call f a sign sign run nodes 297 first
 
   pub unary-of : (o : UnaryOperator) (f : Free) (a : Code) (k : Conversion) (t : Option Meant) (sign : Sign) (run : Run Valued) (nodes : ℕ)
       → IsConverted k t (word sign) → Values r c f a t run nodes node_back
       → Evaluates r c f (operator_code o f (conversion_code k f a)) IsValue (word sign)
       (node (then_with (number k run) (λ n. number_value (unary o n)))) (nodes + 1) node_back
   unary-of o f a k t sign run nodes is first =
-      node-of r c f (operator_code o f (conversion_code k f a)) (word sign) (then_with (number k run) (λ n. number_value (unary o n))) nodes 301
+      node-of r c f (operator_code o f (conversion_code k f a)) (word sign) (then_with (number k run) (λ n. number_value (unary o n))) nodes 297
       (operator-of o f (conversion_code k f a) sign (number k run) nodes (number-of-operand f a k t sign run nodes is first))
 
   -- ---- locals
@@ -161,7 +161,7 @@ module _ (r : Fixed) (c : Call) (call : IsCall r c) where
         (node (then_with (with_state (λ s. give (whole (s.locals + k)))) (λ p. then_with (load span a.scalar p) valued))) 1 node_back)
         (local-type d declared k p t u q a home typed read)
         (node-of r c f (copy_code (meant_width t) p f) t
-        (then_with (with_state (λ s. give (whole (s.locals + k)))) (λ p. then_with (load span a.scalar p) valued)) 0 57
+        (then_with (with_state (λ s. give (whole (s.locals + k)))) (λ p. then_with (load span a.scalar p) valued)) 0 54
         (local-of r c call k p t home span a f))
     read-home a k u q (Some (InMemory at laid)) home typed read = tt
     read-home a k u q (Some Outside) home typed read = tt
@@ -184,7 +184,7 @@ module _ (r : Fixed) (c : Call) (call : IsCall r c) where
 
     -- ---- assignments
 
-    module _ (a : Access) (m : Span) (x : Code) (u : Meant) (run : Run Datum) (nodes : ℕ) (first : Evaluates r c f x IsDatum u run nodes 310)
+    module _ (a : Access) (m : Span) (x : Code) (u : Meant) (run : Run Datum) (nodes : ℕ) (first : Evaluates r c f x IsDatum u run nodes 308)
       where
         assign-home : (k : ℕ) (q : Placed) (o : Option Home) → slice_get c.own k ≡ o
             → (laid : Laid) × (slice_get d.locals k ≡ Some laid) × (q ≡ Leaves laid) → IsAccess a q u
@@ -194,7 +194,7 @@ module _ (r : Fixed) (c : Call) (call : IsCall r c) where
             let same : t ≡ u = local-type d declared k p t u q a home typed read in
             node-of r c f (assign_code p x) u
             (both (node (with_state (λ s. give (whole (s.locals + k))))) run (assign span a)) (nodes + 1) 300
-            (assign-of r c call k p u (home ∙ ap (λ t. Some (InRegister p t)) same) span a f x run nodes 310 300 first (omega arith))
+            (assign-of r c call k p u (home ∙ ap (λ t. Some (InRegister p t)) same) span a f x run nodes 308 300 first (omega arith))
         assign-home k q (Some (InMemory at laid)) home typed read = tt
         assign-home k q (Some Outside) home typed read = tt
         assign-home k q None home typed read = tt
@@ -239,7 +239,7 @@ module _ (r : Fixed) (c : Call) (call : IsCall r c) where
         (sym is)
         (void-node r c f (choice_code c.own None f tested p a d b) (choice cond run second) (nodes + (n1 + n2)) 300
         (either-of r c call no_exits always_next f tested a b (truth cond) run second nodes n1 n2
-        (test-of r c call (reserve 2 f) k v false f.label cond nodes 312 test)
+        (test-of r c call (reserve 2 f) k v false f.label cond nodes 311 test)
         (unused r c (behind (reserve 2 f) k) a u run n1 node_back first)
         (unused r c (behind (behind (reserve 2 f) k) a) b x second n2 node_back then')))
 
@@ -261,6 +261,6 @@ module _ (r : Fixed) (c : Call) (call : IsCall r c) where
         (node-of r c f (conditional_code (meant_width t) f tested y z) t
         (choice cond (then_with (operand p run) valued) (then_with (operand d second) valued)) (nodes + (n1 + n2)) 280
         (conditional-of r c call f tested y z t (truth cond) (operand p run) (operand d second) nodes n1 n2
-        (test-of r c call (reserve 2 f) k v false f.label cond nodes 312 test)
+        (test-of r c call (reserve 2 f) k v false f.label cond nodes 311 test)
         (converted-of (behind (reserve 2 f) k) a p u t run n1 one first)
         (converted-of (behind (behind (reserve 2 f) k) y) b d x t second n2 other then')))

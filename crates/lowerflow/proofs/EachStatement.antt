@@ -136,8 +136,8 @@ module _ (r : Fixed) (c : Call) (call : IsCall r c) (d : Declared) (declared : A
     condition-of (Some v) f l typed =
         bound (value_code c.own f v.value.kind) (λ a. Some (test_code false l a)) (Of v.value f (Some typed.0)) (Condition (Some v) f l)
         (value v.value f (Some typed.0) typed.1)
-        (λ a first. tests-less r c f (test_code false l a) false l (truth (value_of calls v)) (value_nodes v.value.kind) 312 least_hand
-        (omega arith) (test-of r c call f a typed.0 false l (value_of calls v) (value_nodes v.value.kind) 312 first))
+        (λ a first. tests-less r c f (test_code false l a) false l (truth (value_of calls v)) (value_nodes v.value.kind) 311 least_hand
+        (omega arith) (test-of r c call f a typed.0 false l (value_of calls v) (value_nodes v.value.kind) 311 first))
 
     abbrev First : ForFirst → Free → Code → Type 0
     First w f code = Goes r c no_exits f code always_next (for_first calls shapes w) (first_nodes w) least_hand
@@ -183,7 +183,7 @@ module _ (r : Fixed) (c : Call) (call : IsCall r c) (d : Declared) (declared : A
           (value_nodes q.value.kind + (stmt_nodes a + 1)) 300
           (if-of r c call e f (test_code false f.label k) x (truth (value_of calls q)) (entered (stmt_kind calls shapes a))
           (value_nodes q.value.kind) (stmt_nodes a + 1)
-          (test-of r c call (reserve 1 f) k typed.0.0 false f.label (value_of calls q) (value_nodes q.value.kind) 312 cond)
+          (test-of r c call (reserve 1 f) k typed.0.0 false f.label (value_of calls q) (value_nodes q.value.kind) 311 cond)
           (entering a e (behind (reserve 1 f) k) x body))))
       stmt-of (stmt.IfElse' q bx m a by n b) e f typed =
           bound (value_code c.own (reserve 2 f) q.value.kind) _ (Of q.value (reserve 2 f) (Some typed.0.0))
@@ -196,7 +196,7 @@ module _ (r : Fixed) (c : Call) (call : IsCall r c) (d : Declared) (declared : A
           (stmt_kind calls shapes (stmt.IfElse' q bx m a by n b)) (value_nodes q.value.kind + (stmt_nodes a + 1 + (stmt_nodes b + 1))) 300
           (either-of r c call e itself f (test_code false f.label k) x y (truth (value_of calls q)) (entered (stmt_kind calls shapes a))
           (entered (stmt_kind calls shapes b)) (value_nodes q.value.kind) (stmt_nodes a + 1) (stmt_nodes b + 1)
-          (test-of r c call (reserve 2 f) k typed.0.0 false f.label (value_of calls q) (value_nodes q.value.kind) 312 cond)
+          (test-of r c call (reserve 2 f) k typed.0.0 false f.label (value_of calls q) (value_nodes q.value.kind) 311 cond)
           (entering a e (behind (reserve 2 f) k) x body) (entering b e (behind (behind (reserve 2 f) k) x) y other)))))
       stmt-of (stmt.While' q bx m a) e f typed =
           bound (value_code c.own (reserve 3 f) q.value.kind) _ (Of q.value (reserve 3 f) (Some typed.0.0)) (Stmt (stmt.While' q bx m a) e f)
@@ -208,8 +208,8 @@ module _ (r : Fixed) (c : Call) (call : IsCall r c) (d : Declared) (declared : A
           (loop-of r c call e f (test_code false (f.label + 2) k) x no_code (truth (value_of calls q)) (stmt_kind calls shapes a)
           (give tt) (λ flow. give (after_body flow)) (value_nodes q.value.kind) (stmt_nodes a) 0
           (tests-less r c (reserve 3 f) (test_code false (f.label + 2) k) false (f.label + 2) (truth (value_of calls q))
-          (value_nodes q.value.kind) 312 least_hand (omega arith)
-          (test-of r c call (reserve 3 f) k typed.0.0 false (f.label + 2) (value_of calls q) (value_nodes q.value.kind) 312 cond)) body
+          (value_nodes q.value.kind) 311 least_hand (omega arith)
+          (test-of r c call (reserve 3 f) k typed.0.0 false (f.label + 2) (value_of calls q) (value_nodes q.value.kind) 311 cond)) body
           (nothing-of r c no_exits (behind (behind (reserve 3 f) k) x) always_next tt refl) refl refl refl)))
       stmt-of (stmt.Do' bx m a q) e f typed =
           bound (stmt_code c.own (loop_exits f) (reserve 3 f) a) _ (Stmt a (loop_exits f) (reserve 3 f)) (Stmt (stmt.Do' bx m a q) e f)

@@ -107,7 +107,7 @@ module _ (r : Fixed) (c : Call) (call : IsCall r c) (o : LogicalOperator) (f : F
         ))
 
     -- where one side has decided
-    decide : (h owed : ℕ) → hand + 305 ≤ h → owed ≤ x.owed + (nodes + others) → (s : State) (m : Counted)
+    decide : (h owed : ℕ) → hand + 306 ≤ h → owed ≤ x.owed + (nodes + others) → (s : State) (m : Counted)
         → Related r c (record x { place = standing_at c.ops f.label; hand = h; owed = owed }) s m
         → Does r D (Done (Some (Number (truth_value (decided o)))) s) m
     decide h owed enough less s m at =
@@ -126,7 +126,7 @@ module _ (r : Fixed) (c : Call) (call : IsCall r c) (o : LogicalOperator) (f : F
         }) refl (omega arith) less (omega arith) refl s m' next))
 
     -- where neither has
-    undecide : (h owed : ℕ) → hand + 306 ≤ h → owed ≤ x.owed + (nodes + others) → (s : State) (m : Counted)
+    undecide : (h owed : ℕ) → hand + 307 ≤ h → owed ≤ x.owed + (nodes + others) → (s : State) (m : Counted)
         → Related r c (record x { place = behind-tests; hand = h; owed = owed }) s m
         → Does r D (Done (Some (Number (truth_value (undecided o)))) s) m
     undecide h owed enough less s m at =
@@ -165,15 +165,15 @@ module _ (r : Fixed) (c : Call) (call : IsCall r c) (o : LogicalOperator) (f : F
     left-ready = ready-behind r c f (reserve 2 f) (nodes + others) nodes hand hand x x ready (omega arith) refl ready.in_hand (omega arith)
 
     abbrev middle : Point
-    middle = record (past x left-test nodes (hand + 312)) { place = x.place + length left-test.ops }
+    middle = record (past x left-test nodes (hand + 311)) { place = x.place + length left-test.ops }
 
-    right-ready : IsReady r c (behind (reserve 2 f) a) others (hand + 248) middle
+    right-ready : IsReady r c (behind (reserve 2 f) a) others (hand + 247) middle
     right-ready =
-        ready-behind r c f (behind (reserve 2 f) a) (nodes + others) others hand (hand + 248) x middle ready (omega arith) refl (omega arith)
+        ready-behind r c f (behind (reserve 2 f) a) (nodes + others) others hand (hand + 247) x middle ready (omega arith) refl (omega arith)
         (omega arith)
 
     abbrev second-tested : Bool → State → Counted → Type 0
-    second-tested y = Related r c (record (past middle right-test others (hand + 248 + 312)) {
+    second-tested y = Related r c (record (past middle right-test others (hand + 247 + 311)) {
       place = if jumps (decided o) y then standing_at c.ops f.label else behind-tests;
     })
 
@@ -183,7 +183,7 @@ module _ (r : Fixed) (c : Call) (call : IsCall r c) (o : LogicalOperator) (f : F
         → Does r D (then_with (truth second) (λ y. number_value (truth_number y)) r.budget s) m
     second-does each s m at =
         does-then r second-tested D (truth second r.budget s) (λ y. number_value (truth_number y) r.budget) m
-        ((test-of r c call (behind (reserve 2 f) a) b u (decided o) f.label second others 312 then').does middle (hand + 248) s m right-in
+        ((test-of r c call (behind (reserve 2 f) a) b u (decided o) f.label second others 311 then').does middle (hand + 247) s m right-in
         right-ready at) each
 
 -- the cases of the operator
@@ -196,10 +196,10 @@ module _ (r : Fixed) (c : Call) (call : IsCall r c) (f : Free) (a b : Code) (t u
         → Does r (D r c call And f a b t u sign run second nodes others first then' x hand stands ready)
         (Done (Some (Number (truth_number y))) s) m
     and-second stands ready true s m at =
-        undecide r c call And f a b t u sign run second nodes others first then' x hand stands ready (hand + 248 + 312)
+        undecide r c call And f a b t u sign run second nodes others first then' x hand stands ready (hand + 247 + 311)
         (x.owed + nodes + others) (omega arith) (omega arith) s m at
     and-second stands ready false s m at =
-        decide r c call And f a b t u sign run second nodes others first then' x hand stands ready (hand + 248 + 312)
+        decide r c call And f a b t u sign run second nodes others first then' x hand stands ready (hand + 247 + 311)
         (x.owed + nodes + others) (omega arith) (omega arith) s m at
 
     or-second : (stands : IsIn c f (logical_code Or f a b) x.place) (ready : IsReady r c f (nodes + others) hand x) (y : Bool) (s : State)
@@ -207,14 +207,14 @@ module _ (r : Fixed) (c : Call) (call : IsCall r c) (f : Free) (a b : Code) (t u
         → Does r (D r c call Or f a b t u sign run second nodes others first then' x hand stands ready)
         (Done (Some (Number (truth_number y))) s) m
     or-second stands ready true s m at =
-        decide r c call Or f a b t u sign run second nodes others first then' x hand stands ready (hand + 248 + 312)
+        decide r c call Or f a b t u sign run second nodes others first then' x hand stands ready (hand + 247 + 311)
         (x.owed + nodes + others) (omega arith) (omega arith) s m at
     or-second stands ready false s m at =
-        undecide r c call Or f a b t u sign run second nodes others first then' x hand stands ready (hand + 248 + 312)
+        undecide r c call Or f a b t u sign run second nodes others first then' x hand stands ready (hand + 247 + 311)
         (x.owed + nodes + others) (omega arith) (omega arith) s m at
 
     abbrev first-tested : Bool → Bool → State → Counted → Type 0
-    first-tested sense y = Related r c (record (past x (test_code sense f.label a) nodes (hand + 312)) {
+    first-tested sense y = Related r c (record (past x (test_code sense f.label a) nodes (hand + 311)) {
       place = if jumps sense y then standing_at c.ops f.label else x.place + length (test_code sense f.label a).ops;
     })
 
@@ -225,7 +225,7 @@ module _ (r : Fixed) (c : Call) (call : IsCall r c) (f : Free) (a b : Code) (t u
     and-first stands ready true s m at =
         second-does r c call And f a b t u sign run second nodes others first then' x hand stands ready (and-second stands ready) s m at
     and-first stands ready false s m at =
-        decide r c call And f a b t u sign run second nodes others first then' x hand stands ready (hand + 312) (x.owed + nodes) (omega arith)
+        decide r c call And f a b t u sign run second nodes others first then' x hand stands ready (hand + 311) (x.owed + nodes) (omega arith)
         (omega arith) s m at
 
     or-first : (stands : IsIn c f (logical_code Or f a b) x.place) (ready : IsReady r c f (nodes + others) hand x) (y : Bool) (s : State)
@@ -233,7 +233,7 @@ module _ (r : Fixed) (c : Call) (call : IsCall r c) (f : Free) (a b : Code) (t u
         → Does r (D r c call Or f a b t u sign run second nodes others first then' x hand stands ready)
         ((if y then number_value 1 else then_with (truth second) (λ y. number_value (truth_number y))) r.budget s) m
     or-first stands ready true s m at =
-        decide r c call Or f a b t u sign run second nodes others first then' x hand stands ready (hand + 312) (x.owed + nodes) (omega arith)
+        decide r c call Or f a b t u sign run second nodes others first then' x hand stands ready (hand + 311) (x.owed + nodes) (omega arith)
         (omega arith) s m at
     or-first stands ready false s m at =
         second-does r c call Or f a b t u sign run second nodes others first then' x hand stands ready (or-second stands ready) s m at
@@ -245,7 +245,7 @@ module _ (r : Fixed) (c : Call) (call : IsCall r c) (f : Free) (a b : Code) (t u
         does-then r (first-tested x hand false) (D r c call And f a b t u sign run second nodes others first then' x hand stands ready)
         (truth run r.budget s)
         (λ y. (if y then then_with (truth second) (λ y. number_value (truth_number y)) else number_value 0) r.budget) m
-        ((test-of r c call (reserve 2 f) a t false f.label run nodes 312 first).does x hand s m
+        ((test-of r c call (reserve 2 f) a t false f.label run nodes 311 first).does x hand s m
         (left-in r c call And f a b t u sign run second nodes others first then' x hand stands ready)
         (left-ready r c call And f a b t u sign run second nodes others first then' x hand stands ready) related)
         (and-first x hand stands ready);
@@ -256,7 +256,7 @@ module _ (r : Fixed) (c : Call) (call : IsCall r c) (f : Free) (a b : Code) (t u
         does-then r (first-tested x hand true) (D r c call Or f a b t u sign run second nodes others first then' x hand stands ready)
         (truth run r.budget s)
         (λ y. (if y then number_value 1 else then_with (truth second) (λ y. number_value (truth_number y))) r.budget) m
-        ((test-of r c call (reserve 2 f) a t true f.label run nodes 312 first).does x hand s m
+        ((test-of r c call (reserve 2 f) a t true f.label run nodes 311 first).does x hand s m
         (left-in r c call Or f a b t u sign run second nodes others first then' x hand stands ready)
         (left-ready r c call Or f a b t u sign run second nodes others first then' x hand stands ready) related)
         (or-first x hand stands ready);

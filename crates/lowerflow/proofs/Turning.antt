@@ -311,7 +311,7 @@ module _ (r : Fixed) (c : Call) (call : IsCall r c) (e : Exits) (f : Free) (a k 
       in-test = record body-behind { place = at-label + 1 }
 
       abbrev judged : Bool → Point
-      judged b = record (past in-test test nodes (hand + 336 + 312)) {
+      judged b = record (past in-test test nodes (hand + 336 + 311)) {
         place = if jumps true b then standing_at c.ops f.label else at-label + 1 + length test.ops;
         owed = 0;
       }
@@ -323,7 +323,7 @@ module _ (r : Fixed) (c : Call) (call : IsCall r c) (e : Exits) (f : Free) (a k 
           (adjust r c (judged true) (record x { steps = steps + 1 }) s m (label-place r c call (label f.label) x.place (operation full))
           (let in_hand = ready.in_hand in omega (arith, in_hand)) (omega arith) (omega arith) at at.kept)
       turned false s m at =
-          off (steps + 1) at-out (hand + 336 + 312) 0 refl (omega arith) (omega arith) (omega (arith, more)) s m at (steps + 1)
+          off (steps + 1) at-out (hand + 336 + 311) 0 refl (omega arith) (omega arith) (omega (arith, more)) s m at (steps + 1)
 
       judge : (s : State) (m : Counted) → Related r c body-behind s m
           → Does r (F (steps + 1)) (if_true (truth value) (give Again) Next r.budget s) m
@@ -332,7 +332,7 @@ module _ (r : Fixed) (c : Call) (call : IsCall r c) (e : Exits) (f : Free) (a k 
           (label (f.label + 1)) (operation label-tail)
           (λ m' on. does-then r (λ b. Related r c (judged b)) (F (steps + 1)) (truth value r.budget s)
           (λ b. (if b then give Again else give (Over Next)) r.budget) m'
-          (test-back r c call (behind (reserve 3 f) a) k t true f.label value nodes 312 cond in-test (hand + 336) s m' test-place
+          (test-back r c call (behind (reserve 3 f) a) k t true f.label value nodes 311 cond in-test (hand + 336) s m' test-place
           (ready-behind r c f (behind (reserve 3 f) a) steps-of nodes hand (hand + 336) x in-test ready (omega arith) refl (omega arith)
           (omega arith)) x.place (operation full) (omega arith) on) turned)
 

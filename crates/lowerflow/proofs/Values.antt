@@ -37,8 +37,8 @@ module _ (r : Fixed) (c : Call) (call : IsCall r c) (d : Declared) (declared : A
   -- two numbers and an operation on them
   module _ (f : Free) (p q : Conversion) (t u w : Option Meant) (s z o : Sign) (run second : Run Valued) (nodes others : ℕ)
       (meant : ℕ → ℕ → ℕ) (make : Code → Code → Code) (is : IsConverted p t (word s)) (js : IsConverted q u (word z)) (ks : w ≡ Some (word o))
-      (law : (a b : Code) → Evaluates r c f a IsNumber (word s) (number p run) nodes 310
-      → Evaluates r c (behind f a) b IsNumber (word z) (number q second) others 310
+      (law : (a b : Code) → Evaluates r c f a IsNumber (word s) (number p run) nodes 308
+      → Evaluates r c (behind f a) b IsNumber (word z) (number q second) others 308
       → Evaluates r c f (make a b) IsValue (word o) (both (number p run) (number q second) (λ x y. number_value (meant x y))) (nodes + others)
       0) where
     abbrev Whole : Code → Type 0
@@ -96,7 +96,7 @@ module _ (r : Fixed) (c : Call) (call : IsCall r c) (d : Declared) (declared : A
 
   pub value-of : ValueLaw r c d calls
   value-of (value.Number n sign) span f t typed =
-      as-typed r c f _ t (word sign) _ 1 node_back typed.1 (node-of r c f _ (word sign) (number_value n) 0 59
+      as-typed r c f _ t (word sign) _ 1 node_back typed.1 (node-of r c f _ (word sign) (number_value n) 0 58
       (constant-of r c call f sign n typed.0))
   value-of (value.Read' a _ p) span f t typed = read-of r c call d declared calls span f a p t typed.1 typed.0 typed.4 typed.2 typed.3
   value-of (value.Cast' s bx1 k m v) span f t typed =
@@ -111,12 +111,12 @@ module _ (r : Fixed) (c : Call) (call : IsCall r c) (d : Declared) (declared : A
       bound (value_code c.own f v) _ (Of v m.span f (Some typed.0)) (Of (value.Not' bx1 m v) span f t)
       (value-of v m.span f (Some typed.0) typed.1)
       (λ a first. as-typed r c f (not_code f a) t (word Signed) _ (value_nodes v + 1) node_back typed.2
-      (node-of r c f (not_code f a) (word Signed) _ (value_nodes v) 304
-      (not-of r c call f a typed.0 Signed (node (value_kind calls m.span v)) (value_nodes v) 304 first)))
+      (node-of r c f (not_code f a) (word Signed) _ (value_nodes v) 301
+      (not-of r c call f a typed.0 Signed (node (value_kind calls m.span v)) (value_nodes v) 301 first)))
   value-of (value.Binary' o sign _ k m v _ l n w) span f t typed =
       operands-of f k l typed.0 typed.1 t sign typed.2 sign (node (value_kind calls m.span v)) (node (value_kind calls n.span w))
       (value_nodes v) (value_nodes w) (binary o sign) (pair_code (operation o sign) f) typed.5 typed.6 typed.7
-      (λ a b first then'. binary-of r c call f a b (word' sign) typed.2 sign _ _ (value_nodes v) (value_nodes w) 246 310 0 o sign first then'
+      (λ a b first then'. binary-of r c call f a b (word' sign) typed.2 sign _ _ (value_nodes v) (value_nodes w) 244 308 0 o sign first then'
       (omega arith))
       (value_code c.own f v) (λ g. value_code c.own g w) (value-of v m.span f typed.0 typed.3) (λ g. value-of w n.span g typed.1 typed.4)
     where
@@ -125,13 +125,13 @@ module _ (r : Fixed) (c : Call) (call : IsCall r c) (d : Declared) (declared : A
   value-of (value.Comparison' o sign _ k m v _ l n w) span f t typed =
       operands-of f k l typed.0 typed.1 t sign sign Signed (node (value_kind calls m.span v)) (node (value_kind calls n.span w))
       (value_nodes v) (value_nodes w) (comparison o sign) (comparison_code o sign f) typed.4 typed.5 typed.6
-      (λ a b first then'. comparison-of r c call f a b sign sign Signed _ _ (value_nodes v) (value_nodes w) 246 310 0 o sign first then'
+      (λ a b first then'. comparison-of r c call f a b sign sign Signed _ _ (value_nodes v) (value_nodes w) 244 308 0 o sign first then'
       (omega arith))
       (value_code c.own f v) (λ g. value_code c.own g w) (value-of v m.span f typed.0 typed.2) (λ g. value-of w n.span g typed.1 typed.3)
   value-of (value.LeftmostBit' _ k m v _ l n w) span f t typed =
       operands-of f k l typed.0 typed.1 t Unsigned Unsigned Unsigned (node (value_kind calls m.span v)) (node (value_kind calls n.span w))
       (value_nodes v) (value_nodes w) leftmost_bit (pair_code two.LeftmostBit f) typed.4 typed.5 typed.6
-      (λ a b first then'. leftmost-of r c call f a b Unsigned Unsigned Unsigned _ _ (value_nodes v) (value_nodes w) 246 310 0 first then'
+      (λ a b first then'. leftmost-of r c call f a b Unsigned Unsigned Unsigned _ _ (value_nodes v) (value_nodes w) 244 308 0 first then'
       (omega arith))
       (value_code c.own f v) (λ g. value_code c.own g w) (value-of v m.span f typed.0 typed.2) (λ g. value-of w n.span g typed.1 typed.3)
   value-of (value.Logical' o bx1 m v bx2 n w) span f t typed =

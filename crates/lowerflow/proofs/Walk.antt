@@ -138,7 +138,7 @@ module _ (r : Fixed) (c : Call) (call : IsCall r c) where
 
     pub go-branch : (left : VReg) (test : Test) (v : ℕ) (to : Label) (hand : ℕ) (b : Bool)
         → slice_get c.ops x.place ≡ Some (op.Branch left test 0 to None) → m.state.frame.registers left.0 ≡ Some v
-        → is_met test v 0 ≡ b → 8 + hand ≤ x.hand
+        → is_met test v 0 ≡ b → 9 + hand ≤ x.hand
         → ((m' : Counted) → Related r c (record x { place = if b then standing_at c.ops to.0 else x.place + 1; hand = hand }) s m'
         → Does r D run m') → Does r D run m
     go-branch left test v to hand b is reg met paid rest =
@@ -149,7 +149,7 @@ module _ (r : Fixed) (c : Call) (call : IsCall r c) where
 
     pub go-branch-back : (left : VReg) (test : Test) (v : ℕ) (to : Label) (at hand : ℕ) (b : Bool)
         → slice_get c.ops x.place ≡ Some (op.Branch left test 0 to None) → slice_get c.ops at ≡ Some (op.Label to) → at < x.place
-        → m.state.frame.registers left.0 ≡ Some v → is_met test v 0 ≡ b → 8 + hand ≤ x.hand
+        → m.state.frame.registers left.0 ≡ Some v → is_met test v 0 ≡ b → 9 + hand ≤ x.hand
         → ((m' : Counted) → Related r c (record x { place = if b then standing_at c.ops to.0 else x.place + 1; hand = hand; owed = 0 }) s m'
         → Does r D run m') → Does r D run m
     go-branch-back left test v to at hand b is label before reg met paid rest =
@@ -164,7 +164,7 @@ module _ (r : Fixed) (c : Call) (call : IsCall r c) where
 module _ (r : Fixed) (c : Call) (call : IsCall r c) {A : Type 0} (D : A → State → Counted → Type 0) (run : Ran UndefinedStep State A)
     (x : Point) (s : State) (m : Counted) (q hand : ℕ) (free : c.variables ≤ q) (below : AllByRecursion (λ k. k.register < q) x.kept) where
   pub go-constant : (n : ℕ) (sign : Sign) → n < 2 ^ 32 → slice_get c.ops x.place ≡ Some (op.Constant (register q) n)
-      → slice_get c.widths q ≡ Some B4 → 5 + hand ≤ x.hand → Related r c x s m
+      → slice_get c.widths q ≡ Some B4 → 6 + hand ≤ x.hand → Related r c x s m
       → ((m' : Counted) → Related r c (record x {
         place = x.place + 1;
         kept = record { register = q; meant = word sign; datum = Number n } ∷ x.kept;
@@ -176,7 +176,7 @@ module _ (r : Fixed) (c : Call) (call : IsCall r c) {A : Type 0} (D : A → Stat
       simulates-from (counted r.program r.addresses) (Ends r) D run m done.0 done.1 (rest done.0 done.2)
 
   pub go-copy : (from : ℕ) (t : Meant) (d : Datum) → slice_get c.ops x.place ≡ Some (op.Copy (register q) (register from))
-      → slice_get c.widths q ≡ Some (meant_width t) → 7 + hand ≤ x.hand
+      → slice_get c.widths q ≡ Some (meant_width t) → 10 + hand ≤ x.hand
       → Related r c (record x { kept = record { register = from; meant = t; datum = d } ∷ x.kept }) s m
       → ((m' : Counted) → Related r c (record x {
         place = x.place + 1;

@@ -18,7 +18,7 @@ module _ (r : Fixed) (c : Call) where
   -- a value, and a jump by its truth
   abbrev pub TestLaw : Type 0
   TestLaw = (f : Free) (a : Code) (t : Meant) (sense : Bool) (l : ℕ) (run : Run Valued) (nodes left : ℕ)
-      → Evaluates r c f a IsValue t run nodes (left + 8) → Tests r c f (test_code sense l a) sense l (truth run) nodes left
+      → Evaluates r c f a IsValue t run nodes (left + 9) → Tests r c f (test_code sense l a) sense l (truth run) nodes left
 
   -- `&&` and `||`
   abbrev pub LogicalLaw : Type 0
@@ -30,16 +30,16 @@ module _ (r : Fixed) (c : Call) where
   -- `?:` of a value
   abbrev pub ConditionalLaw : Type 0
   ConditionalLaw = (f : Free) (k a b : Code) (t : Meant) (cond : Run Bool) (run second : Run Datum) (nodes n1 n2 : ℕ)
-      → Tests r c (reserve 2 f) k false f.label cond nodes 312
-      → Evaluates r c (behind (reserve 2 f) k) a IsDatum t run n1 310
-      → Evaluates r c (behind (behind (reserve 2 f) k) a) b IsDatum t second n2 310
+      → Tests r c (reserve 2 f) k false f.label cond nodes 311
+      → Evaluates r c (behind (reserve 2 f) k) a IsDatum t run n1 308
+      → Evaluates r c (behind (behind (reserve 2 f) k) a) b IsDatum t second n2 308
       → Evaluates r c f (conditional_code (meant_width t) f k a b) IsValue t
       (then_with cond (λ y. if y then then_with run valued else then_with second valued)) (nodes + (n1 + n2)) 280
 
   -- if with else
   abbrev pub EitherLaw : Type 0
   EitherLaw = (e : Exits) (f : Free) (k a b : Code) (cond : Run Bool) (run second : Run Flow) (nodes n1 n2 : ℕ)
-      → Tests r c (reserve 2 f) k false f.label cond nodes 312
+      → Tests r c (reserve 2 f) k false f.label cond nodes 311
       → Goes r c e (behind (reserve 2 f) k) a itself run n1 node_back
       → Goes r c e (behind (behind (reserve 2 f) k) a) b itself second n2 node_back
       → Goes r c e f (either_code f k a b) itself (then_with cond (λ y. if y then run else second)) (nodes + (n1 + n2)) 300
@@ -47,7 +47,7 @@ module _ (r : Fixed) (c : Call) where
   -- if without else
   abbrev pub IfLaw : Type 0
   IfLaw = (e : Exits) (f : Free) (k a : Code) (cond : Run Bool) (run : Run Flow) (nodes n1 : ℕ)
-      → Tests r c (reserve 1 f) k false f.label cond nodes 312 → Goes r c e (behind (reserve 1 f) k) a itself run n1 node_back
+      → Tests r c (reserve 1 f) k false f.label cond nodes 311 → Goes r c e (behind (reserve 1 f) k) a itself run n1 node_back
       → Goes r c e f (if_code f k a) itself (then_with cond (λ y. if y then run else give Next)) (nodes + n1) 300
 
   -- A loop with its test first. `rest` says how a turn goes on behind its body.

@@ -107,7 +107,7 @@ binary-below source.BitXor sign a b x y = xor_of_32 a b x y
 binary-below source.BitOr sign a b x y = or_of_32 a b x y
 
 -- the most cycles of a binary operation
-pub binary-charge : (o : BinaryOp) (to left : VReg) (right : Operand) → charge (op.Binary o to left right) ≤ 442
+pub binary-charge : (o : BinaryOp) (to left : VReg) (right : Operand) → charge (op.Binary o to left right) ≤ 447
 binary-charge two.Add to left right = lit≤ tt
 binary-charge two.Subtract to left right = lit≤ tt
 binary-charge two.And to left right = lit≤ tt

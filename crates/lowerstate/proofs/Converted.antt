@@ -41,7 +41,7 @@ extended-below : (w : Width) (sign : Sign) (n : ℕ) → n < 2 ^ bit_count w →
 extended-below w Signed n small = signed-below (sext w n)
 extended-below w Unsigned n small = fits-four w n small
 
-extending-charge : (sign : Sign) (to from : VReg) → charge (extending sign to from) ≤ 10
+extending-charge : (sign : Sign) (to from : VReg) → charge (extending sign to from) ≤ 12
 extending-charge Signed to from = omega arith
 extending-charge Unsigned to from = omega arith
 
@@ -76,11 +76,11 @@ module _ (r : Fixed) (c : Call) (call : IsCall r c) where
     abbrev converts : Conversion → Run Datum
     converts k = then_with run (λ d. sure (convert k d))
 
-    to-integer : (from : Integer) (to : Width) (z : Sign) → Evaluates r c f a IsDatum (OfInteger from) run nodes (left + 10)
+    to-integer : (from : Integer) (to : Width) (z : Sign) → Evaluates r c f a IsDatum (OfInteger from) run nodes (left + 12)
         → Evaluates r c f (conversion_code (conversion.Integer from to) f a) IsDatum (integer to z) (converts (conversion.Integer from to))
         nodes left
     to-integer from to z first =
-        next-op r c call {Is = IsDatum} {Is' = IsDatum} f a (OfInteger from) (integer to z) run nodes (left + 10) left
+        next-op r c call {Is = IsDatum} {Is' = IsDatum} f a (OfInteger from) (integer to z) run nodes (left + 12) left
         (λ d. sure (convert (conversion.Integer from to) d))
         (extending from.sign (register (next_register f a)) (register a.result)) first
         (let most = extending-charge from.sign (register (next_register f a)) (register a.result) in omega (arith, most))
@@ -95,11 +95,11 @@ module _ (r : Fixed) (c : Call) (call : IsCall r c) where
           (refl, wrap-below to (extended from at.0)),
         ))
 
-    to-address : (from : Integer) → Evaluates r c f a IsDatum (OfInteger from) run nodes (left + 10)
+    to-address : (from : Integer) → Evaluates r c f a IsDatum (OfInteger from) run nodes (left + 12)
         → Evaluates r c f (conversion_code (conversion.ToAddress from) f a) IsDatum ToVolatile (converts (conversion.ToAddress from)) nodes
         left
     to-address from first =
-        next-op r c call {Is = IsDatum} {Is' = IsDatum} f a (OfInteger from) ToVolatile run nodes (left + 10) left
+        next-op r c call {Is = IsDatum} {Is' = IsDatum} f a (OfInteger from) ToVolatile run nodes (left + 12) left
         (λ d. sure (convert (conversion.ToAddress from) d))
         (extending from.sign (register (next_register f a)) (register a.result)) first
         (let most = extending-charge from.sign (register (next_register f a)) (register a.result) in omega (arith, most))
@@ -115,11 +115,11 @@ module _ (r : Fixed) (c : Call) (call : IsCall r c) where
           (wrap-small B4 (extended from at.0) small, small),
         ))
 
-    from-address : (to : Width) (z : Sign) → Evaluates r c f a IsDatum ToVolatile run nodes (left + 10)
+    from-address : (to : Width) (z : Sign) → Evaluates r c f a IsDatum ToVolatile run nodes (left + 12)
         → Evaluates r c f (conversion_code (conversion.FromAddress to) f a) IsDatum (integer to z) (converts (conversion.FromAddress to))
         nodes left
     from-address to z first =
-        next-op r c call {Is = IsDatum} {Is' = IsDatum} f a ToVolatile (integer to z) run nodes (left + 10) left
+        next-op r c call {Is = IsDatum} {Is' = IsDatum} f a ToVolatile (integer to z) run nodes (left + 12) left
         (λ d. sure (convert (conversion.FromAddress to) d))
         (op.Copy (register (next_register f a)) (register a.result)) first (omega arith)
         (λ homes s e d v within is held reg width.
@@ -133,10 +133,10 @@ module _ (r : Fixed) (c : Call) (call : IsCall r c) where
           (ap (wrap to) at.2, wrap-below to at.0),
         ))
 
-    to-null : (from : Integer) (layout : ℕ) → Evaluates r c f a IsDatum (OfInteger from) run nodes (left + 10)
+    to-null : (from : Integer) (layout : ℕ) → Evaluates r c f a IsDatum (OfInteger from) run nodes (left + 12)
         → Evaluates r c f (conversion_code conversion.ToNull f a) IsDatum (ToPlain layout) (converts conversion.ToNull) nodes left
     to-null from layout first =
-        next-op r c call {Is = IsDatum} {Is' = IsDatum} f a (OfInteger from) (ToPlain layout) run nodes (left + 10) left
+        next-op r c call {Is = IsDatum} {Is' = IsDatum} f a (OfInteger from) (ToPlain layout) run nodes (left + 12) left
         (λ d. sure (convert conversion.ToNull d))
         (op.Constant (register (next_register f a)) 0) first (omega arith)
         (λ homes s e d v within is held reg width.
@@ -150,55 +150,55 @@ module _ (r : Fixed) (c : Call) (call : IsCall r c) where
           refl,
         ))
 
-    same-type : (t : Meant) → Evaluates r c f a IsDatum t run nodes (left + 10)
+    same-type : (t : Meant) → Evaluates r c f a IsDatum t run nodes (left + 12)
         → Evaluates r c f a IsDatum t (converts conversion.Same) nodes left
     same-type t first =
-        less-left r c f a t (converts conversion.Same) nodes (left + 10) left
-        (next-same r c {Is = IsDatum} {Is' = IsDatum} f a t t run nodes (left + 10) (λ d. sure (convert conversion.Same d)) first refl
+        less-left r c f a t (converts conversion.Same) nodes (left + 12) left
+        (next-same r c {Is = IsDatum} {Is' = IsDatum} f a t t run nodes (left + 12) (λ d. sure (convert conversion.Same d)) first refl
         (λ homes e d v is held. (e, d, refl, is, held))) (omega arith)
 
-    same-width : (w : Width) (s z : Sign) → Evaluates r c f a IsDatum (integer w s) run nodes (left + 10)
+    same-width : (w : Width) (s z : Sign) → Evaluates r c f a IsDatum (integer w s) run nodes (left + 12)
         → Evaluates r c f a IsDatum (integer w z) (converts conversion.Same) nodes left
     same-width w s z first =
-        less-left r c f a (integer w z) (converts conversion.Same) nodes (left + 10) left
-        (next-same r c {Is = IsDatum} {Is' = IsDatum} f a (integer w s) (integer w z) run nodes (left + 10)
+        less-left r c f a (integer w z) (converts conversion.Same) nodes (left + 12) left
+        (next-same r c {Is = IsDatum} {Is' = IsDatum} f a (integer w s) (integer w z) run nodes (left + 12)
         (λ d. sure (convert conversion.Same d)) first refl
         (λ homes e d v is held.
         let at = number-of-datum (record { width = w; sign = s }) homes d v held in
         (e, d, refl, is, subst (λ d. Held r.layouts homes (integer w z) d v) (sym at.1) (at.2, at.3)))) (omega arith)
 
-    alike : (t u : Meant) → AreAlike t u → Evaluates r c f a IsDatum t run nodes (left + 10)
+    alike : (t u : Meant) → AreAlike t u → Evaluates r c f a IsDatum t run nodes (left + 12)
         → Evaluates r c f a IsDatum u (converts conversion.Same) nodes left
     alike t u (inl same) first =
         subst (λ u. Evaluates r c f a IsDatum u (converts conversion.Same) nodes left) same (same-type t first)
     alike t u (inr by) first =
         subst (λ u. Evaluates r c f a IsDatum u (converts conversion.Same) nodes left) (sym by.4)
-        (same-width by.0 by.1 by.2 (subst (λ t. Evaluates r c f a IsDatum t run nodes (left + 10)) by.3 first))
+        (same-width by.0 by.1 by.2 (subst (λ t. Evaluates r c f a IsDatum t run nodes (left + 12)) by.3 first))
 
-    convert-of : (k : Conversion) (t u : Meant) → IsConversion k t u → Evaluates r c f a IsDatum t run nodes (left + 10)
+    convert-of : (k : Conversion) (t u : Meant) → IsConversion k t u → Evaluates r c f a IsDatum t run nodes (left + 12)
         → Evaluates r c f (conversion_code k f a) IsDatum u (converts k) nodes left
     convert-of conversion.Same t u is first = alike t u is first
     convert-of (conversion.Integer from to) t u is first =
         subst (λ u. Evaluates r c f (conversion_code (conversion.Integer from to) f a) IsDatum u (converts (conversion.Integer from to))
         nodes
         left) (sym is.2)
-        (to-integer from to is.1 (subst (λ t. Evaluates r c f a IsDatum t run nodes (left + 10)) is.0 first))
+        (to-integer from to is.1 (subst (λ t. Evaluates r c f a IsDatum t run nodes (left + 12)) is.0 first))
     convert-of (conversion.ToAddress from) t u is first =
         subst (λ u. Evaluates r c f (conversion_code (conversion.ToAddress from) f a) IsDatum u (converts (conversion.ToAddress from)) nodes
         left) (sym is.1)
-        (to-address from (subst (λ t. Evaluates r c f a IsDatum t run nodes (left + 10)) is.0 first))
+        (to-address from (subst (λ t. Evaluates r c f a IsDatum t run nodes (left + 12)) is.0 first))
     convert-of (conversion.FromAddress to) t u is first =
         subst (λ u. Evaluates r c f (conversion_code (conversion.FromAddress to) f a) IsDatum u (converts (conversion.FromAddress to)) nodes
         left) (sym is.2)
-        (from-address to is.1 (subst (λ t. Evaluates r c f a IsDatum t run nodes (left + 10)) is.0 first))
+        (from-address to is.1 (subst (λ t. Evaluates r c f a IsDatum t run nodes (left + 12)) is.0 first))
     convert-of conversion.ToNull t u is first =
         subst (λ u. Evaluates r c f (conversion_code conversion.ToNull f a) IsDatum u (converts conversion.ToNull) nodes left) (sym is.3)
-        (to-null is.0 is.2 (subst (λ t. Evaluates r c f a IsDatum t run nodes (left + 10)) is.1 first))
+        (to-null is.0 is.2 (subst (λ t. Evaluates r c f a IsDatum t run nodes (left + 12)) is.1 first))
 
   pub operand-of : (k : Conversion) (f : Free) (a : Code) (t u : Meant) (run : Run Valued) (nodes left : ℕ) → IsConversion k t u
-      → Evaluates r c f a IsValue t run nodes (left + 10) → Evaluates r c f (conversion_code k f a) IsDatum u (operand k run) nodes left
+      → Evaluates r c f a IsValue t run nodes (left + 12) → Evaluates r c f (conversion_code k f a) IsDatum u (operand k run) nodes left
   operand-of k f a t u run nodes left is first =
-      convert-of f a (datum run) nodes left k t u is (datum-of r c f a t run nodes (left + 10) first)
+      convert-of f a (datum run) nodes left k t u is (datum-of r c f a t run nodes (left + 12) first)
 
   -- ---- `!`
 
@@ -218,13 +218,13 @@ module _ (r : Fixed) (c : Call) (call : IsCall r c) where
   equal-zero v = refl
 
   pub not-of : (f : Free) (a : Code) (t : Meant) (sign : Sign) (run : Run Valued) (nodes left : ℕ)
-      → Evaluates r c f a IsValue t run nodes (left + 16)
+      → Evaluates r c f a IsValue t run nodes (left + 19)
       → Evaluates r c f (not_code f a) IsValue (word sign) (then_with (truth run) (λ x. number_value (truth_number (not x)))) nodes left
   not-of f a t sign run nodes left first =
-      next-op r c call {Is = IsTruth} {Is' = IsValue} f a t (word sign) (truth run) nodes (left + 16) left
+      next-op r c call {Is = IsTruth} {Is' = IsValue} f a t (word sign) (truth run) nodes (left + 19) left
       (λ x. number_value (truth_number (not x)))
       (op.Binary two.Equal (register (next_register f a)) (register a.result) (place.Constant 0))
-      (truth-of f a t run nodes (left + 16) first) (omega arith)
+      (truth-of f a t run nodes (left + 19) first) (omega arith)
       (λ homes s x d v within is held reg width.
       let same : binary_value two.Equal v 0 ≡ truth_number (not x) =
       equal-zero v ∙ (ap truth_number (zero-where-false r.layouts homes t d v within held) ∙ ap (λ y. truth_number (not y)) (sym is)) in (

@@ -87,22 +87,22 @@ module _ (r : Fixed) (c : Call) where
 
 module _ (r : Fixed) (c : Call) (call : IsCall r c) where
   pub constant-of : (f : Free) (sign : Sign) (n : ℕ) → n < 2 ^ 32
-      → Evaluates r c f (constant_code f n) IsValue (word sign) (number_value n) 0 59
+      → Evaluates r c f (constant_code f n) IsValue (word sign) (number_value n) 0 58
   constant-of f sign n small = record {
     typed = (0, omega arith, refl);
     does = λ x hand s m stands ready related.
         let k : OpKind = op.Constant (register f.register) n in
         let in_hand = ready.in_hand in
-        let done = wrote r c call x s m k (register f.register) B4 (word sign) (Number n) n (hand + 59) x.kept related
+        let done = wrote r c call x s m k (register f.register) B4 (word sign) (Number n) n (hand + 58) x.kept related
         (stands-first c.ops [] x.place k stands.ops) (stands-first c.widths [] f.register B4 stands.widths) stands.free ready.kept
         related.kept refl (wrap-small B4 n small, small) (omega (arith, in_hand)) in
-        simulates-from (counted r.program r.addresses) (Ends r) (Given r c (constant_code f n) IsValue (word sign) 0 59 x hand)
+        simulates-from (counted r.program r.addresses) (Ends r) (Given r c (constant_code f n) IsValue (word sign) 0 58 x hand)
         (Done (Some (Number n)) s) m done.0 done.1
-        (simulates-here (counted r.program r.addresses) (Ends r) (Given r c (constant_code f n) IsValue (word sign) 0 59 x hand)
+        (simulates-here (counted r.program r.addresses) (Ends r) (Given r c (constant_code f n) IsValue (word sign) 0 58 x hand)
         (Done (Some (Number n)) s) done.0 (
           Number n,
           refl,
-          adjust r c _ (onwards x (constant_code f n) 0 hand 59 (word sign) (Number n)) s done.0 refl (omega arith)
+          adjust r c _ (onwards x (constant_code f n) 0 hand 58 (word sign) (Number n)) s done.0 refl (omega arith)
               (omega arith) (omega arith) done.2 done.2.kept,
         ));
   }
@@ -118,11 +118,11 @@ module _ (r : Fixed) (c : Call) (call : IsCall r c) where
   computed t homes n v same small = (ap (wrap B4) same ∙ wrap-small B4 n small, small)
 
   pub minus-of : (f : Free) (code : Code) (s t : Sign) (run : Run ℕ) (nodes left : ℕ)
-      → Evaluates r c f code IsNumber (word s) run nodes (left + 9)
+      → Evaluates r c f code IsNumber (word s) run nodes (left + 11)
       → Evaluates r c f (unary_code one.Negate f code)
       IsValue (word t) (then_with run (λ n. number_value (unary Minus n))) nodes left
   minus-of f code s t run nodes left first =
-      next-op r c call {Is = IsNumber} {Is' = IsValue} f code (word s) (word t) run nodes (left + 9) left
+      next-op r c call {Is = IsNumber} {Is' = IsValue} f code (word s) (word t) run nodes (left + 11) left
       (λ n. number_value (unary Minus n))
       (op.Unary one.Negate (register (next_register f code)) (register code.result)) first (omega arith)
       (λ homes m n d v within is held reg width.
@@ -138,11 +138,11 @@ module _ (r : Fixed) (c : Call) (call : IsCall r c) where
       ))
 
   pub complement-of : (f : Free) (code : Code) (s t : Sign) (run : Run ℕ) (nodes left : ℕ)
-      → Evaluates r c f code IsNumber (word s) run nodes (left + 9)
+      → Evaluates r c f code IsNumber (word s) run nodes (left + 11)
       → Evaluates r c f (unary_code one.Complement f code)
       IsValue (word t) (then_with run (λ n. number_value (unary Complement n))) nodes left
   complement-of f code s t run nodes left first =
-      next-op r c call {Is = IsNumber} {Is' = IsValue} f code (word s) (word t) run nodes (left + 9) left
+      next-op r c call {Is = IsNumber} {Is' = IsValue} f code (word s) (word t) run nodes (left + 11) left
       (λ n. number_value (unary Complement n))
       (op.Unary one.Complement (register (next_register f code)) (register code.result)) first (omega arith)
       (λ homes m n d v within is held reg width.
@@ -163,7 +163,7 @@ module _ (r : Fixed) (c : Call) (call : IsCall r c) where
         → ((x y : ℕ) → x < 2 ^ 32 → y < 2 ^ 32 → (binary_value o x y ≡ meant x y) × (meant x y < 2 ^ 32))
         → Evaluates r c f a IsNumber (word s) run nodes (least_hand + spare) → Evaluates r c (behind f a) b IsNumber (word t) second others
         back
-        → 442 + left ≤ spare + back
+        → 447 + left ≤ spare + back
         → Evaluates r c f (pair_code o f a b) IsValue (word u) (both run second (λ x y. number_value (meant x y))) (nodes + others) left
     pair-of o meant agrees first then' paid =
         let k : OpKind =
@@ -190,7 +190,7 @@ module _ (r : Fixed) (c : Call) (call : IsCall r c) where
         → ((x y : ℕ) → x < 2 ^ 32 → y < 2 ^ 32 → (binary_value o y x ≡ meant x y) × (meant x y < 2 ^ 32))
         → Evaluates r c f a IsNumber (word s) run nodes (least_hand + spare) → Evaluates r c (behind f a) b IsNumber (word t) second others
         back
-        → 442 + left ≤ spare + back
+        → 447 + left ≤ spare + back
         → Evaluates r c f (swapped_code o f a b) IsValue (word u) (both run second (λ x y. number_value (meant x y))) (nodes + others) left
     swapped-of o meant agrees first then' paid =
         let k : OpKind =
@@ -217,7 +217,7 @@ module _ (r : Fixed) (c : Call) (call : IsCall r c) where
     pub binary-of : (o : BinaryOperator) (sign : Sign)
         → Evaluates r c f a IsNumber (word s) run nodes (least_hand + spare) → Evaluates r c (behind f a) b IsNumber (word t) second others
         back
-        → 442 + left ≤ spare + back
+        → 447 + left ≤ spare + back
         → Evaluates r c f (pair_code (operation o sign) f a b) IsValue (word u) (both run second (λ x y. number_value (binary o sign x y)))
         (nodes + others) left
     binary-of o sign = pair-of (operation o sign) (binary o sign)
@@ -225,7 +225,7 @@ module _ (r : Fixed) (c : Call) (call : IsCall r c) where
 
     -- `__lmbd`
     pub leftmost-of : Evaluates r c f a IsNumber (word s) run nodes (least_hand + spare)
-        → Evaluates r c (behind f a) b IsNumber (word t) second others back → 442 + left ≤ spare + back
+        → Evaluates r c (behind f a) b IsNumber (word t) second others back → 447 + left ≤ spare + back
         → Evaluates r c f (pair_code two.LeftmostBit f a b) IsValue (word u) (both run second (λ x y. number_value (leftmost_bit x y)))
         (nodes + others) left
     leftmost-of = pair-of two.LeftmostBit leftmost_bit (λ x y less more. (leftmost-agrees x y, leftmost-below x y))
@@ -234,7 +234,7 @@ module _ (r : Fixed) (c : Call) (call : IsCall r c) where
     pub comparison-of : (o : ComparisonOperator) (sign : Sign)
         → Evaluates r c f a IsNumber (word s) run nodes (least_hand + spare) → Evaluates r c (behind f a) b IsNumber (word t) second others
         back
-        → 442 + left ≤ spare + back
+        → 447 + left ≤ spare + back
         → Evaluates r c f (comparison_code o sign f a b) IsValue (word u) (both run second (λ x y. number_value (comparison o sign x y)))
         (nodes + others) left
     comparison-of o sign first then' paid = chosen (is_swapped o) (comparison-agrees o sign)

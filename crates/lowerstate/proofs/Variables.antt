@@ -102,7 +102,7 @@ module _ (r : Fixed) (c : Call) (call : IsCall r c) (k q : ℕ) (t : Meant) (hom
   -- a value is copied to the local's register
   pub set-local : (x : Point) (s : State) (m : Counted) (d : Datum) (from : VReg) (v hand : ℕ) (related : Related r c x s m)
       → slice_get c.ops x.place ≡ Some (op.Copy (register q) from) → m.state.frame.registers from.0 ≡ Some v
-      → Held r.layouts (homes_with c related.later) t d v → AllByRecursion (λ k. c.variables ≤ k.register) x.kept → 7 + hand ≤ x.hand
+      → Held r.layouts (homes_with c related.later) t d v → AllByRecursion (λ k. c.variables ≤ k.register) x.kept → 10 + hand ≤ x.hand
       → (m' : Counted) × Reaches (counted r.program r.addresses) m m'
       × Related r c (record x { place = x.place + 1; hand = hand }) (holding d s) m'
   set-local x s m d from v hand related is reg held apart paid = (
@@ -201,7 +201,7 @@ module _ (r : Fixed) (c : Call) (call : IsCall r c) (k q : ℕ) (t : Meant) (hom
       here = s.locals + k
 
       abbrev D : Option Datum → State → Counted → Type 0
-      D = Given r c (copy_code (meant_width t) q f) IsValue t 0 57 x hand
+      D = Given r c (copy_code (meant_width t) q f) IsValue t 0 54 x hand
 
       read : (d : Datum) → slice_get (leaves_of s here) zero ≡ Some (Some d) → Does r D (Done (Some d) s) m
       read d leaf =
@@ -212,7 +212,7 @@ module _ (r : Fixed) (c : Call) (call : IsCall r c) (k q : ℕ) (t : Meant) (hom
           let in_hand = ready.in_hand in
           let few = held-below r.layouts (homes_with c related.later) t d old.0 (stored-within r c x s m related) old.2 in
           let same : wrap (meant_width t) old.0 ≡ old.0 = wrap-small (meant_width t) old.0 few in
-          let done = wrote r c call x s m code (register f.register) (meant_width t) t d old.0 (hand + 57) x.kept related
+          let done = wrote r c call x s m code (register f.register) (meant_width t) t d old.0 (hand + 54) x.kept related
           (stands-first c.ops [] x.place code stands.ops) (stands-first c.widths [] f.register (meant_width t) stands.widths)
           stands.free ready.kept related.kept (got (charged code m.state) (register q) old.0 _ old.1)
           (subst (λ v. Held r.layouts (homes_with c related.later) t d v) (sym same) old.2) (omega (arith, in_hand)) in
@@ -220,7 +220,7 @@ module _ (r : Fixed) (c : Call) (call : IsCall r c) (k q : ℕ) (t : Meant) (hom
           (simulates-here (counted r.program r.addresses) (Ends r) D (Done (Some d) s) done.0 (
             d,
             refl,
-            adjust r c _ (onwards x (copy_code (meant_width t) q f) 0 hand 57 t d) s done.0 refl
+            adjust r c _ (onwards x (copy_code (meant_width t) q f) 0 hand 54 t d) s done.0 refl
                 (omega arith) (omega arith) (omega arith) done.2 done.2.kept,
           ))
 
@@ -246,7 +246,7 @@ module _ (r : Fixed) (c : Call) (call : IsCall r c) (k q : ℕ) (t : Meant) (hom
           (undefined-does r c (λ _ _ _. ⊥) span EndedCall x s m few-owed related) (λ d s m no. absurd no)) (λ d s m no. absurd no)
 
     pub local-of : Evaluates r c f (copy_code (meant_width t) q f) IsValue t
-        (then_with (local_place k) (λ p. then_with (load span a.scalar p) valued)) 0 57
+        (then_with (local_place k) (λ p. then_with (load span a.scalar p) valued)) 0 54
     local-of = record {
       typed = (0, omega arith, refl);
       does = λ x hand s m stands ready related. alive-case x hand s m stands ready related (is_alive s (s.locals + k));
@@ -255,7 +255,7 @@ module _ (r : Fixed) (c : Call) (call : IsCall r c) (k q : ℕ) (t : Meant) (hom
   -- ---- an assignment
 
   module _ (span : Span) (access : Access) (f : Free) (a : Code) (run : Run Datum) (nodes back left : ℕ)
-      (first : Evaluates r c f a IsDatum t run nodes back) (paid : 7 + left ≤ 512 + back) where
+      (first : Evaluates r c f a IsDatum t run nodes back) (paid : 10 + left ≤ 512 + back) where
     -- behind the step of the place
     abbrev placed : Point → ℕ → Point
     placed x hand = stepped x (least_hand + (hand + 512))

@@ -60,24 +60,24 @@ module _ (r : Fixed) (c : Call) where
 
   abbrev pub ConstantLaw : Type 0
   ConstantLaw = (f : Free) (sign : Sign) (n : ℕ) → n < 2 ^ 32
-      → Evaluates r c f (constant_code f n) IsValue (word sign) (number_value n) 0 59
+      → Evaluates r c f (constant_code f n) IsValue (word sign) (number_value n) 0 58
 
   abbrev pub MinusLaw : Type 0
   MinusLaw = (f : Free) (a : Code) (s t : Sign) (run : Run ℕ) (nodes left : ℕ)
-      → Evaluates r c f a IsNumber (word s) run nodes (left + 9)
+      → Evaluates r c f a IsNumber (word s) run nodes (left + 11)
       → Evaluates r c f (unary_code one.Negate f a) IsValue (word t) (then_with run (λ n. number_value (unary Minus n))) nodes left
 
   abbrev pub ComplementLaw : Type 0
   ComplementLaw = (f : Free) (a : Code) (s t : Sign) (run : Run ℕ) (nodes left : ℕ)
-      → Evaluates r c f a IsNumber (word s) run nodes (left + 9)
+      → Evaluates r c f a IsNumber (word s) run nodes (left + 11)
       → Evaluates r c f (unary_code one.Complement f a) IsValue (word t) (then_with run (λ n. number_value (unary Complement n))) nodes left
 
-  -- An operation on two numbers may call a helper, of at most 442 cycles.
+  -- An operation on two numbers may call a helper, of at most 447 cycles.
   module _ (f : Free) (a b : Code) (s t u : Sign) (run second : Run ℕ) (nodes others spare back left : ℕ) where
     -- code for two numbers and an operation on them, which does what is meant
     abbrev pub Joining : Code → (ℕ → ℕ → ℕ) → Type 0
     Joining code meant = Evaluates r c f a IsNumber (word s) run nodes (least_hand + spare)
-        → Evaluates r c (behind f a) b IsNumber (word t) second others back → 442 + left ≤ spare + back
+        → Evaluates r c (behind f a) b IsNumber (word t) second others back → 447 + left ≤ spare + back
         → Evaluates r c f code IsValue (word u) (both run second (λ x y. number_value (meant x y))) (nodes + others) left
 
   abbrev pub BinaryLaw : Type 0
@@ -101,25 +101,25 @@ module _ (r : Fixed) (c : Call) where
   abbrev pub LocalLaw : Type 0
   LocalLaw = (span : Span) (a : Access) (f : Free) (k q : ℕ) (t : Meant) → slice_get c.own k ≡ Some (InRegister q t)
       → Evaluates r c f (copy_code (meant_width t) q f) IsValue t (then_with (local_place k) (λ p. then_with (load span a.scalar p) valued))
-      0 57
+      0 54
 
   -- a value to a local: the step of its place, the value, and a copy
   abbrev pub AssignLaw : Type 0
   AssignLaw = (span : Span) (access : Access) (f : Free) (k q : ℕ) (t : Meant) (a : Code) (run : Run Datum) (nodes back left : ℕ)
-      → slice_get c.own k ≡ Some (InRegister q t) → Evaluates r c f a IsDatum t run nodes back → 7 + left ≤ 512 + back
+      → slice_get c.own k ≡ Some (InRegister q t) → Evaluates r c f a IsDatum t run nodes back → 10 + left ≤ 512 + back
       → Evaluates r c f (assign_code q a) IsValue t (both (node (local_place k)) run (assign span access)) (nodes + 1) left
 
   -- ---- conversions
 
   abbrev pub ConversionLaw : Type 0
   ConversionLaw = (conversion : Conversion) (f : Free) (a : Code) (t u : Meant) (run : Run Valued) (nodes left : ℕ)
-      → IsConversion conversion t u → Evaluates r c f a IsValue t run nodes (left + 10)
+      → IsConversion conversion t u → Evaluates r c f a IsValue t run nodes (left + 12)
       → Evaluates r c f (conversion_code conversion f a) IsDatum u (operand conversion run) nodes left
 
   -- `!`
   abbrev pub NotLaw : Type 0
   NotLaw = (f : Free) (a : Code) (t : Meant) (sign : Sign) (run : Run Valued) (nodes left : ℕ)
-      → Evaluates r c f a IsValue t run nodes (left + 16)
+      → Evaluates r c f a IsValue t run nodes (left + 19)
       → Evaluates r c f (not_code f a) IsValue (word sign) (then_with (truth run) (λ x. number_value (truth_number (not x)))) nodes left
 
   -- ---- nodes, one after another

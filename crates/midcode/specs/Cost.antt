@@ -87,7 +87,8 @@ zeroings bytes = (bytes + 15) / 16
 abbrev pub size : OpKind → ℕ
 size (op.Constant to n) = constant + slot
 size (op.Address to object offset) = constant + slot
-size (op.Copy to from) = slot + slot
+-- an ADD of 0 between them, which fills the upper bytes of a wider register
+size (op.Copy to from) = slot + 1 + slot
 size (op.Unary o to from) = slot + 2 + slot
 size (op.Binary o to left right) = slot + work_with o right + slot
 -- the sign bit, XOR, SUB
@@ -139,49 +140,49 @@ divides _ = false
 abbrev pub helper_size : List OpKind → ℕ
 helper_size ks = (if list_any multiplies ks then 120 else 0) + (if list_any divides ks then 280 else 0)
 
--- ---- cycles
+-- ---- cycles, by the slower table
 
--- an LDI, and a load of up to 4 bytes from the core's own RAM (3) or a store to it (2)
+-- an LDI, and a load of up to 4 bytes from the core's own RAM (4) or a store to it (3)
 abbrev pub slot_read : ℕ
-slot_read = 4
+slot_read = 5
 
 abbrev pub slot_write : ℕ
-slot_write = 3
+slot_write = 4
 
 abbrev pub is_helped : OpKind → Bool
 is_helped k = multiplies k || divides k
 
--- At most 400 in the helper's body. Round it R14 to R25 are stored (1 + 13) and loaded again (1 + 14).
+-- At most 400 in the helper's body. Round it R14 to R25 are stored (1 + 14) and loaded again (1 + 15).
 abbrev pub helped_charge : ℕ
-helped_charge = 400 + 14 + 2 * slot_read + 2 + 15 + slot_write
+helped_charge = 400 + 15 + 2 * slot_read + 2 + 16 + slot_write
 
--- The entry of the function that is called: R5 to R13 (1 + 10), the return address (1 + 2) and R14 to R21 (1 + 9) are stored, each
+-- The entry of the function that is called: R5 to R13 (1 + 11), the return address (1 + 3) and R14 to R21 (1 + 10) are stored, each
 -- parameter is loaded and put to its place.
 abbrev pub entry_charge : ℕ → ℕ
-entry_charge count = 24 + (slot_read + slot_write) * count
+entry_charge count = 27 + (slot_read + slot_write) * count
 
 -- cycles, where accesses are to the core's own RAM
 abbrev pub charge : OpKind → ℕ
 charge (op.Constant to n) = constant + slot_write
 charge (op.Address to object offset) = constant + slot_write
-charge (op.Copy to from) = slot_read + slot_write
+charge (op.Copy to from) = slot_read + 1 + slot_write
 charge (op.Unary o to from) = slot_read + 2 + slot_write
 charge (op.Binary o to left right) =
     if is_helped (op.Binary o to left right) then helped_charge else 2 * slot_read + work o + constant + slot_write
 charge (op.Widen to from) = slot_read + 3 + slot_write
-charge (op.Load to b offset) = slot_read + 4 + slot_write
-charge (op.Store b offset from width) = 2 * slot_read + 3
-charge (op.Zero object offset bytes) = 4 + constant + 5 * zeroings bytes
-charge (op.Read to b offset own) = slot_read + 4 + slot_write
-charge (op.Write b offset from width own) = 2 * slot_read + 3
+charge (op.Load to b offset) = slot_read + 5 + slot_write
+charge (op.Store b offset from width) = 2 * slot_read + 4
+charge (op.Zero object offset bytes) = 4 + constant + 6 * zeroings bytes
+charge (op.Read to b offset own) = slot_read + 5 + slot_write
+charge (op.Write b offset from width own) = 2 * slot_read + 4
 charge (op.ReadRegister to register) = 1 + slot_write
 charge (op.WriteRegister register from) = slot_read + 1
 charge (op.ReadPad to bank register) = 24
 charge (op.WritePad bank register from) = 24
 charge (op.Call function arguments to) =
-    14 + slot_read * length (listed arguments) + 2 + 15 + slot_write + entry_charge (length (listed arguments))
--- the value, R5 to R13 (1 + 11) and the return address (1 + 3) loaded again, JMP
-charge (op.Return value) = slot_read + 12 + 4 + 1
+    15 + slot_read * length (listed arguments) + 2 + 16 + slot_write + entry_charge (length (listed arguments))
+-- the value, R5 to R13 (1 + 12) and the return address (1 + 4) loaded again, JMP
+charge (op.Return value) = slot_read + 13 + 5 + 1
 charge (op.Label l) = 0
 charge (op.Jump l) = 1
 charge (op.Branch left test right to turns) = slot_read + constant + far_branch

@@ -47,10 +47,10 @@ divides-right : (o : BinaryOp) (to left : VReg) (r s : Operand) → divides (op.
 divides-right binary.Multiply to left r s = refl
 divides-right o to left r s = refl
 
-least-charge : (o : BinaryOp) (to left : VReg) (r : Operand) → 5 ≤ charge (op.Binary o to left r)
+least-charge : (o : BinaryOp) (to left : VReg) (r : Operand) → 6 ≤ charge (op.Binary o to left r)
 least-charge o to left r = by (is_helped (op.Binary o to left r))
   where
-    by : (b : Bool) → 5 ≤ (if b then helped_charge else 2 * 4 + work o + 2 + 3)
+    by : (b : Bool) → 6 ≤ (if b then helped_charge else 2 * 5 + work o + 2 + 4)
     by true = omega arith
     by false = omega arith
 
@@ -84,7 +84,7 @@ module _ (registers : List Width) (labels : ℕ) where
     was : is_value k ≡ true
     writes : writes k ≡ Some to
     size : 4 ≤ size k
-    charge : 5 ≤ charge k
+    charge : 6 ≤ charge k
 
   computed : (k : OpKind) (to : VReg) (n : ℕ) → Computes k to → Fine registers labels k (constant registers to n)
   computed k to n c = record {
